@@ -1,0 +1,133 @@
+-- The tests that antt computes for the rows, over all lists of starts and runs of a small problem.
+-- Assumes nothing.
+use Prim.Native.Nat.{ℕ, _+_, _^_}
+use mathlib.Core.Bool.{Bool, true, false, not, _&&_, _||_, Bool·beq}
+use mathlib.Core.List.{List, [], _∷_}
+use lib.ListN.{length}
+use lib.Dec.{ltb, leb, eqb}
+use Rattle.sums.specs.Logic.{if, implies}
+use Rattle.sums.specs.Range.{allTo, allTable, someTo, countTo, allLists}
+use Rattle.model.specs.Problem.{Problem}
+use Rattle.model.specs.Rules.{broken}
+use Rattle.model.specs.Judgement.{Judgement, soundAt, breaks, rejected, judgeOf}
+use Rattle.model.specs.Domain.{permitted}
+use Rattle.model.specs.Schedule.{Schedule, scheduleOf, outIn, layOut, cost}
+use Rattle.model.specs.Commitment.{freeAt, runBefore, serves}
+use Rattle.model.specs.Prefix.{startsFrom, prefixes, rank, spaceBound}
+use Rattle.model.specs.Words.{problemOf}
+use Rattle.model.specs.Verdict.{Verdict, accepted, refused}
+use Rattle.model.specs.Reading.{readOf}
+use Rattle.model.specs.Nogood.{Choice, Nogood}
+use Rattle.figures.specs.Rows.{Claim, cheapest, noneAt, none, conflict, noConflict, meeting, starts, rule, places, ranked, Row, member, nobody}
+
+-- ---- what the laws ask of a problem
+
+unfoldable pub unitFair : Problem → ℕ → Bool
+unitFair p i = leb 1 (p .earliest i) && leb 1 (p .duration i)
+
+unfoldable pub pairFair : Problem → ℕ → Bool
+pairFair p n = ltb (p .pairA n) (p .units) && ltb (p .pairB n) (p .units)
+
+unfoldable pub isFair : Problem → Bool
+unfolding unitFair pairFair
+isFair p = allTo (p .units) (unitFair p) && allTo (p .pairs) (pairFair p)
+
+-- ---- sound schedules
+
+unfoldable pub permitsAt : Problem → Schedule → ℕ → Bool
+permitsAt p s i = permitted p i (s .start i)
+
+unfoldable pub runAt : Problem → Schedule → ℕ → Bool
+runAt p s t = ltb (s .run t) (2 ^ p .units) && allTo (p .units) (freeAt (outIn p (s .start) t) (s .run t))
+
+unfoldable pub isSound : Problem → Schedule → Bool
+unfolding permitsAt runAt
+isSound p s = allTo (p .units) (permitsAt p s) && allTo (p .weeks) (runAt p s) && eqb (broken p (layOut p s)) 0
+
+-- the test holds of every sound schedule
+unfoldable pub everySound : Problem → (Schedule → Bool) → Bool
+unfolding isSound
+everySound p q =
+    allLists (p .units) (p .weeks + 1) (λ ss. allLists (p .weeks) (2 ^ p .units) (λ rs. implies (isSound p (scheduleOf ss rs)) (q (scheduleOf ss rs))))
+
+-- ---- order
+
+unfoldable pub sameTo : ℕ → (ℕ → ℕ) → (ℕ → ℕ) → Bool
+sameTo n f g = allTo n (λ k. eqb (f k) (g k))
+
+unfoldable pub lowerAt : (ℕ → ℕ → Bool) → (ℕ → ℕ) → (ℕ → ℕ) → ℕ → Bool
+unfolding sameTo
+lowerAt lower f g k = sameTo k f g && lower (f k) (g k)
+
+unfoldable pub isLower : (ℕ → ℕ → Bool) → ℕ → (ℕ → ℕ) → (ℕ → ℕ) → Bool
+unfolding lowerAt
+isLower lower n f g = someTo n (lowerAt lower f g)
+
+unfoldable pub isEarlier : Problem → Schedule → Schedule → Bool
+unfolding sameTo isLower
+isEarlier p s q =
+    isLower ltb (p .units) (s .start) (q .start)
+    || (sameTo (p .units) (s .start) (q .start) && isLower (runBefore p) (p .weeks) (s .run) (q .run))
+
+-- ---- claims
+
+-- no cheaper than c, and dearer where it is earlier than the best
+unfoldable pub notBetter : Problem → Schedule → ℕ → Schedule → Bool
+unfolding isEarlier
+notBetter p best c s = leb c (cost p s) && implies (isEarlier p s best) (ltb c (cost p s))
+
+unfoldable pub dearer : Problem → ℕ → Schedule → Bool
+dearer p c s = ltb c (cost p s)
+
+unfoldable pub takes : List Choice → Schedule → Bool
+takes [] s = true
+takes (c ∷ cs) s = eqb (s .start (c .unit)) (c .start) && takes cs s
+
+unfoldable pub notTaken : Problem → Nogood → Schedule → Bool
+unfolding takes dearer
+notTaken p g s = implies (takes (g .choices) s) (dearer p (g .bound) s)
+
+unfoldable pub isLegal : Problem → ℕ → List Choice → Bool
+isLegal p u [] = true
+isLegal p u (c ∷ cs) = leb u (c .unit) && ltb (c .unit) (p .units) && permitted p (c .unit) (c .start) && isLegal p (c .unit + 1) cs
+
+unfoldable pub below : ℕ → List ℕ → Bool
+below n [] = true
+below n (x ∷ xs) = ltb x n && below n xs
+
+unfoldable pub startIs : Problem → ℕ → List ℕ → ℕ → Bool
+unfolding member
+startIs p i ss s = Bool·beq (permitted p i s) (member s ss)
+
+abbrev pub breaksRule : ℕ → Judgement → Bool
+breaksRule n (soundAt c) = false
+breaksRule n (breaks m) = eqb m n
+breaksRule n (rejected m q) = false
+
+abbrev pub isAccepted : Verdict → Bool
+isAccepted accepted = true
+isAccepted (refused n q) = false
+
+unfoldable pub claimTest : List ℕ → Problem → Claim → Bool
+unfolding everySound notBetter dearer takes notTaken isLegal below startIs nobody
+claimTest f p (cheapest ss rs c) =
+    eqb (length ss) (p .units) && eqb (length rs) (p .weeks) && eqb (cost p (scheduleOf ss rs)) c
+    && isSound p (scheduleOf ss rs) && everySound p (notBetter p (scheduleOf ss rs) c)
+claimTest f p (noneAt ceiling) = everySound p (dearer p ceiling)
+claimTest f p none = everySound p (λ s. false)
+claimTest f p (conflict g) = isLegal p 0 (g .choices) && everySound p (notTaken p g)
+claimTest f p (noConflict g ss rs) = isSound p (scheduleOf ss rs) && takes (g .choices) (scheduleOf ss rs) && leb (cost p (scheduleOf ss rs)) (g .bound)
+claimTest f p (meeting t n) = eqb (countTo (2 ^ p .units) (serves p t nobody)) n
+claimTest f p (starts i ss) = ltb i (p .units) && below (p .weeks + 1) ss && allTo (p .weeks + 1) (startIs p i ss)
+claimTest f p (rule grid n) = breaksRule n (judgeOf f grid)
+claimTest f p (places n figure) = eqb (prefixes p) n && eqb (spaceBound p) figure
+claimTest f p (ranked ss n) = leb 1 (length ss) && leb (length ss) (p .units) && startsFrom p 0 ss && eqb (rank p ss) n
+
+unfoldable pub rowTest : Row → Bool
+unfolding isFair claimTest
+rowTest r = isAccepted (readOf (r .file)) && isFair (problemOf (r .file)) && claimTest (r .file) (problemOf (r .file)) (r .claim)
+
+unfoldable pub tests : List Row → Bool
+unfolding rowTest
+tests [] = true
+tests (r ∷ rs) = rowTest r && tests rs

@@ -1,0 +1,22 @@
+-- the problem and its grids
+pub mod Problem
+pub mod Grid
+pub mod Rules
+pub mod Judgement
+-- schedules
+pub mod Domain
+pub mod Schedule
+pub mod Commitment
+pub mod Plan
+pub mod Order
+pub mod Prefix
+-- the words of files, asks and lent memory
+pub mod Words
+pub mod Verdict
+pub mod Reading
+pub mod Refusal
+-- answers
+pub mod Best
+pub mod Nogood
+pub mod Answer
+pub mod Asks

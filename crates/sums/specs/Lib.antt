@@ -1,0 +1,4 @@
+pub mod Logic
+pub mod Sum
+pub mod Range
+pub mod Set
