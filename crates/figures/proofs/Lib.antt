@@ -4,3 +4,5 @@ pub mod TestLaws
 pub mod ClaimLaws
 -- the common theorem
 pub mod Figures
+-- the worked run meets demand 3
+pub mod Worked

@@ -14,3 +14,7 @@ pub mod GridLaws
 pub mod CommitmentLaws
 -- the order of schedules is total, so the best is one; schedules before a mark
 pub mod OrderLaws
+-- a table's words determine its nogoods; nogoods added at the end
+pub mod NogoodLaws
+-- a block's words determine its answer, and the words of a run determine what each ask is told
+pub mod AnswerLaws

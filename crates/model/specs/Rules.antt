@@ -56,7 +56,7 @@ module _ (p : Problem) (x : States) where
   unfolding unit4
   keeps4 = allTable (p .units) (p .weeks) unit4
 
-  -- unit i is out of maintenance in week s; in week s if that is later than t
+  -- unit i is not in maintenance in week s; nor in week s where that is later than t
   unfoldable pub notOut : ℕ → ℕ → Bool
   notOut i s = not (isMaint x s i)
 
