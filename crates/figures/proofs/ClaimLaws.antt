@@ -1,10 +1,10 @@
 -- Each kind of claim follows from its computed test.
 -- Assumes nothing.
-use Prim.Native.Nat.{ℕ, zero, suc, _+_, _^_, _≤_, _<_}
+use Prim.Native.Nat.{ℕ, _+_, _^_, _≤_, _<_}
 use mathlib.Core.Path.{_≡_, refl, sym, _∙_, ap, subst}
-use mathlib.Core.Bool.{Bool, true, false, _&&_, _||_, Bool·beq}
+use mathlib.Core.Bool.{Bool, true, false, _&&_, Bool·beq}
 use mathlib.Core.List.{List, [], _∷_}
-use mathlib.Core.Logic.{_⊎_, ⊎-elim}
+use mathlib.Core.Logic.{⊎-elim}
 use native.Mathlib.Omega.{arith}
 use lib.Dec.{ltb, leb, eqb}
 use lib.ListN.{length}
@@ -18,7 +18,6 @@ use Rattle.model.specs.Judgement.{Judgement, soundAt, breaks, rejected, judgeOf
 use Rattle.model.specs.Domain.{permitted}
 use Rattle.model.specs.Schedule.{Schedule, scheduleOf, Sound, cost}
 use Rattle.model.specs.Commitment.{serves}
-use Rattle.model.specs.Order.{Earlier}
 use Rattle.model.specs.Prefix.{startsFrom, prefixes, rank, spaceBound}
 use Rattle.model.specs.Words.{problemOf}
 use Rattle.model.specs.Verdict.{Verdict, accepted, refused}

@@ -1,19 +1,18 @@
 -- THE WORKED FIGURES: P1 to P11 hold, jointly. One test over all rows is computed, and each row's is carried to its claim, which speaks
 -- of all schedules; P9 and P10 hold besides for every problem and grid. Assumes nothing.
-use Prim.Native.Nat.{ℕ, _+_, _≤_, _<_}
+use Prim.Native.Nat.{ℕ, _≤_, _<_}
 use mathlib.Core.Path.{_≡_, refl, sym, _∙_}
 use mathlib.Core.Bool.{true, false, _&&_}
-use mathlib.Core.List.{List, [], _∷_}
 use native.Mathlib.Omega.{arith}
 use lib.Dec.{T, ltb}
-use Rattle.sums.specs.Sum.{sumTo, one}
+use Rattle.sums.specs.Sum.{sumTo, countsOne}
 use Rattle.sums.specs.Range.{allTo, allTable, someTo, firstTo, countTo, allLists, countLists}
-use Rattle.sums.specs.Set.{pick, has}
+use Rattle.sums.specs.NumSet.{pick, has}
 use Rattle.sums.proofs.LogicLaws.{true-false, is-true, and-of, implies-at, not-so}
 use Rattle.sums.proofs.RangeLaws.{all-at, table-at, first-is}
 use Rattle.model.specs.Problem.{Problem}
 use Rattle.model.specs.Grid.{States, isOn, isMaint, cell}
-use Rattle.model.specs.Rules.{output, headcount, ok4, unit4, keeps1, keeps2, keeps3, keeps4, keeps5, outAt, unit6, keeps6, broken, cost9}
+use Rattle.model.specs.Rules.{output, headcount, ok4, unit4, keeps4, outAt, unit6, keeps6, broken, cost9}
 use Rattle.model.specs.Judgement.{judgeOf}
 use Rattle.model.specs.Domain.{permitted}
 use Rattle.model.specs.Schedule.{inSpan, outIn, layOut, cost}
@@ -26,7 +25,7 @@ use Rattle.figures.specs.Tests.{tests}
 use Rattle.figures.proofs.ClaimLaws.{all-of-tests}
 
 computed : T (tests rows)
-unfolding tests sumTo one allTo allTable someTo countTo allLists countLists pick has isOn isMaint cell output headcount broken cost9 judgeOf permitted inSpan outIn layOut cost freeAt runBefore serves startsFrom before prefixes rank spaceBound kindOf valueOf kindAt valueAt layoutOf problemOf readOf
+unfolding tests sumTo countsOne allTo allTable someTo countTo allLists countLists pick has isOn isMaint cell output headcount broken cost9 judgeOf permitted inSpan outIn layOut cost freeAt runBefore serves startsFrom before prefixes rank spaceBound kindOf valueOf kindAt valueAt layoutOf problemOf readOf
 computed = tt
 
 rows-hold : All rows

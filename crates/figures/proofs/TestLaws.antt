@@ -1,28 +1,26 @@
 -- What the computed tests say: of a problem, of a schedule, and of all sound schedules by those that lists stand for.
 -- Assumes nothing.
-use Prim.Native.Nat.{ℕ, zero, suc, _+_, _^_, _≤_, _<_}
-use mathlib.Core.Path.{_≡_, refl, sym, _∙_, ap, subst}
-use mathlib.Core.Bool.{Bool, true, false, not, _&&_, _||_}
+use Prim.Native.Nat.{ℕ, _+_, _^_, _<_}
+use mathlib.Core.Path.{_≡_, refl, _∙_}
+use mathlib.Core.Bool.{Bool, true, _&&_}
 use mathlib.Core.List.{List, [], _∷_}
-use mathlib.Core.Logic.{_⊎_, inl, inr, ⊎-elim}
-use native.Mathlib.Omega.{arith}
+use mathlib.Core.Logic.{inl, inr}
 use lib.Dec.{ltb, leb, eqb}
-use lib.ListN.{length, getD}
 use borrow.Author.Tests.{ltb-true, leb-true, eqb-true, lt-ltb, eq-eqb}
 use Rattle.sums.specs.Logic.{implies}
-use Rattle.sums.specs.Range.{allTo, someTo, listTo, allLists}
-use Rattle.sums.specs.Set.{Set, has}
-use Rattle.sums.proofs.LogicLaws.{true-false, and-of, and-left, and-right, or-left, or-right, implies-at, implies-of, not-at, not-of}
+use Rattle.sums.specs.Range.{allTo, listTo, allLists}
+use Rattle.sums.proofs.LogicLaws.{and-of, and-left, and-right, or-left, or-right, implies-at}
 use Rattle.sums.proofs.RangeLaws.{all-at, all-of, some-of, list-length, list-at, lists-at}
 use Rattle.model.specs.Problem.{Problem, Fair}
 use Rattle.model.specs.Rules.{broken}
 use Rattle.model.specs.Domain.{permitted}
-use Rattle.model.specs.Schedule.{Schedule, scheduleOf, outIn, layOut, IsRun, IsSchedule, Sound, cost}
+use Rattle.model.specs.Schedule.{Schedule, scheduleOf, outIn, layOut, IsRun, Sound, cost}
 use Rattle.model.specs.Commitment.{freeAt, runBefore}
 use Rattle.model.specs.Order.{Same, Alike, Lower, Earlier}
 use Rattle.model.specs.Nogood.{Choice, Legal, Takes}
 use Rattle.model.proofs.DomainLaws.{permits-below}
 use Rattle.model.proofs.ScheduleLaws.{sound-agree, cost-agree}
+use Rattle.model.proofs.CommitmentLaws.{free-of, free-at}
 use Rattle.model.proofs.OrderLaws.{lower-agree}
 use Rattle.figures.specs.Tests.{unitFair, pairFair, isFair, permitsAt, runAt, isSound, everySound, sameTo, lowerAt, isLower, isEarlier, takes, isLegal}
 
@@ -47,20 +45,21 @@ fair-of p e = record {
 
 module _ (p : Problem) (s : Schedule) where
   run-of : (t : ℕ) → IsRun p (outIn p (s .start) t) (s .run t) → runAt p s t ≡ true
-  unfolding runAt freeAt
+  unfolding runAt
   run-of t r =
       and-of (ltb (s .run t) (2 ^ p .units)) (allTo (p .units) (freeAt (outIn p (s .start) t) (s .run t)))
       (lt-ltb (s .run t) (2 ^ p .units) (r .units))
-      (all-of (p .units) (freeAt (outIn p (s .start) t) (s .run t))
-      (λ i h. implies-of (outIn p (s .start) t i) (not (has (s .run t) i)) (λ o. not-of (has (s .run t) i) (r .free i h o))))
+      (free-of (p .units) (outIn p (s .start) t) (s .run t) (r .free))
 
   run-at : (t : ℕ) → runAt p s t ≡ true → IsRun p (outIn p (s .start) t) (s .run t)
-  unfolding runAt freeAt
-  run-at t e = record {
-    units = ltb-true (s .run t) (2 ^ p .units) (and-left (ltb (s .run t) (2 ^ p .units)) (allTo (p .units) (freeAt (outIn p (s .start) t) (s .run t))) e);
-    free = λ i h o. not-at (has (s .run t) i) (implies-at (outIn p (s .start) t i) (not (has (s .run t) i))
-        (all-at (p .units) (freeAt (outIn p (s .start) t) (s .run t)) (and-right (ltb (s .run t) (2 ^ p .units)) (allTo (p .units) (freeAt (outIn p (s .start) t) (s .run t))) e) i h) o);
-  }
+  unfolding runAt
+  run-at t e =
+      let below = ltb (s .run t) (2 ^ p .units) in
+      let frees = allTo (p .units) (freeAt (outIn p (s .start) t) (s .run t)) in
+      record {
+        units = ltb-true (s .run t) (2 ^ p .units) (and-left below frees e);
+        free = free-at (p .units) (outIn p (s .start) t) (s .run t) (and-right below frees e);
+      }
 
   pub sound-of : Sound p s → isSound p s ≡ true
   unfolding isSound permitsAt

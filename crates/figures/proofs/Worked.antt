@@ -1,16 +1,14 @@
 -- The worked run of document 01 meets demand 3 as the definitions state it: they can be met, and by the paper's own words.
 -- Assumes nothing.
-use Prim.Native.Nat.{ℕ, zero, suc, _+_, _≤_, _<_}
-use mathlib.Core.Path.{_≡_, refl, sym, _∙_, ap, subst}
-use mathlib.Core.Bool.{true}
+use Prim.Native.Nat.{ℕ, zero, suc, _≤_, _<_}
+use mathlib.Core.Path.{_≡_, refl, sym, _∙_, ap}
 use mathlib.Core.List.{List, [], _∷_, _++_, append-nil}
 use mathlib.Core.Logic.{⊎-elim}
 use native.Mathlib.Omega.{arith}
-use lib.ListN.{length, drop, drop-of-length-le}
+use lib.ListN.{length, drop-of-length-le}
 use Rattle.sums.specs.Range.{someTo}
 use Rattle.sums.proofs.LogicLaws.{lt-or-ge}
-use Rattle.model.specs.Problem.{Problem}
-use Rattle.model.specs.Schedule.{Schedule, Sound, cost}
+use Rattle.model.specs.Schedule.{cost}
 use Rattle.model.specs.Words.{kindOf, valueOf, kindAt, valueAt, layoutOf, problemOf}
 use Rattle.model.specs.Verdict.{accepted, firstFault}
 use Rattle.model.specs.Reading.{readOf}
@@ -18,7 +16,7 @@ use Rattle.model.specs.Refusal.{runVerdict}
 use Rattle.model.specs.Best.{Everywhere, NoneAllowed}
 use Rattle.model.specs.Nogood.{Nogood, Holds, nogoodsWords, boundsAlone, Table}
 use Rattle.model.specs.Answer.{Answer, optimal, infeasible, Found, Correct, zeros, blocksOf}
-use Rattle.model.specs.Asks.{askCount, ceilingAt, budgetAt, answerAt, Follows, concluded, Answered, Ran}
+use Rattle.model.specs.Asks.{askCount, ceilingAt, budgetAt, answerAt, Follows, concluded, Answered}
 use Rattle.figures.specs.Files.{fileA}
 use Rattle.figures.specs.Worked.{asksA, answersA, tableA, WorkedRun}
 use Rattle.figures.proofs.Figures.{figures}

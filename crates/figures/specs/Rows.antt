@@ -1,6 +1,6 @@
 -- The worked figures marked P as rows: what each kind of row claims of all schedules, starts, runs or places of its file.
 -- Assumes nothing.
-use Prim.Native.Nat.{ℕ, _+_, _^_, _≤_, _<_}
+use Prim.Native.Nat.{ℕ, _^_, _≤_, _<_}
 use mathlib.Core.Path.{_≡_}
 use mathlib.Core.Bool.{Bool, true, false, _||_}
 use mathlib.Core.List.{List, [], _∷_}
@@ -13,12 +13,12 @@ use Rattle.model.specs.Judgement.{breaks, judgeOf}
 use Rattle.model.specs.Domain.{permitted}
 use Rattle.model.specs.Schedule.{Schedule, Sound}
 use Rattle.model.specs.Commitment.{serves}
-use Rattle.model.specs.Prefix.{IsPrefix, prefixes, rank, spaceBound}
+use Rattle.model.specs.Prefix.{ValidPrefix, prefixes, rank, spaceBound}
 use Rattle.model.specs.Words.{problemOf}
 use Rattle.model.specs.Verdict.{accepted}
 use Rattle.model.specs.Reading.{readOf}
 use Rattle.model.specs.Best.{Everywhere, NoneAllowed}
-use Rattle.model.specs.Nogood.{Choice, Nogood, Legal, Holds}
+use Rattle.model.specs.Nogood.{Nogood, Legal, Holds}
 use Rattle.model.specs.Answer.{Found}
 use Rattle.figures.specs.Files.{fileA, fileFour, fileOne, fileLong, fileTwo, fileGap}
 
@@ -42,10 +42,12 @@ pub data Claim : Type 0 where
   places : ℕ → ℕ → Claim
   ranked : List ℕ → ℕ → Claim
 
+-- a file, word by word, and what is claimed of its problem
 pub record Row : Type 0 where
   pub file : List ℕ
   pub claim : Claim
 
+-- v is among the numbers
 unfoldable pub member : ℕ → List ℕ → Bool
 member v [] = false
 member v (x ∷ xs) = eqb v x || member v xs
@@ -54,6 +56,7 @@ member v (x ∷ xs) = eqb v x || member v xs
 unfoldable pub nobody : ℕ → Bool
 nobody i = false
 
+-- what each kind of claim says
 abbrev pub Claimed : List ℕ → Claim → Type 0
 Claimed f (cheapest ss rs c) = Found (problemOf f) c Everywhere c ss rs
 Claimed f (noneAt ceiling) = NoneAllowed (problemOf f) ceiling Everywhere
@@ -64,7 +67,7 @@ Claimed f (meeting t n) = countTo (2 ^ problemOf f .units) (serves (problemOf f)
 Claimed f (starts i ss) = (s : ℕ) → permitted (problemOf f) i s ≡ member s ss
 Claimed f (rule grid n) = judgeOf f grid ≡ breaks n
 Claimed f (places n figure) = (prefixes (problemOf f) ≡ n) × (spaceBound (problemOf f) ≡ figure)
-Claimed f (ranked ss n) = IsPrefix (problemOf f) ss × (rank (problemOf f) ss ≡ n)
+Claimed f (ranked ss n) = ValidPrefix (problemOf f) ss × (rank (problemOf f) ss ≡ n)
 
 -- every row's file is accepted, and its claim holds
 abbrev pub All : List Row → Type 0
@@ -75,6 +78,7 @@ All (r ∷ rs) = ((readOf (r .file) ≡ accepted) × Claimed (r .file) (r .claim
 abbrev pub firstAtOne : ℕ → Nogood
 firstAtOne bound = record { bound = bound; choices = record { unit = 0; start = 1 } ∷ [] }
 
+-- P1 to P11
 abbrev pub rows : List Row
 rows =
     -- P1

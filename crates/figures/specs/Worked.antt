@@ -10,6 +10,7 @@ use Rattle.model.specs.Answer.{zeros}
 use Rattle.model.specs.Asks.{Ran}
 use Rattle.figures.specs.Files.{fileA}
 
+-- two asks: ceiling 100 with budget 12, ceiling 18 with budget 1
 abbrev pub asksA : List ℕ
 asksA = 11 ∶ 100 ∷ 12 ∶ 12 ∷ 11 ∶ 18 ∷ 12 ∶ 1 ∷ []
 

@@ -10,10 +10,10 @@ use lib.Dec.{ltb, leb, eqb}
 use borrow.Author.Tests.{ltb-true, ltb-false, leb-true, eqb-true, lt-ltb, le-leb, eq-eqb}
 use Rattle.sums.specs.Logic.{if}
 use Rattle.sums.specs.Range.{allTo}
-use Rattle.sums.specs.Set.{Set, away, numberOf, has}
+use Rattle.sums.specs.NumSet.{NumSet, away, numberOf, has}
 use Rattle.sums.proofs.LogicLaws.{true-false, and-of, and-left, and-right, implies-at, implies-of, not-at, not-of, not-so, lt-or-ge, ltb-total}
 use Rattle.sums.proofs.RangeLaws.{all-at, all-of}
-use Rattle.sums.proofs.SetLaws.{sum-subset, pick-agree, number-below, number-has}
+use Rattle.sums.proofs.NumSetLaws.{sum-subset, pick-agree, number-below, number-has}
 use Rattle.model.specs.Problem.{Problem}
 use Rattle.model.specs.Rules.{output}
 use Rattle.model.specs.Commitment.{runCost, runBefore, Serves, Cheapest, NoRun, Pick, nothing, picked, IsPick, freeAt, serves, cheaper, improve, cheapestTo, cheapestRun}
@@ -59,22 +59,32 @@ prefer-not c d b e = go (ltb c d) refl e
 below-suc : (n : ℕ) {A : ℕ → Type 0} → A n → ((q : ℕ) → q < n → A q) → (q : ℕ) → q < suc n → A q
 below-suc n {A} a f q h = ⊎-elim (λ (e : q ≡ n). subst A (sym e) a) (λ (l : q < n). f q l) (eq-or-lt-of-le (le-of-suc-le-suc h))
 
-module _ (p : Problem) (t : ℕ) (out : Set) where
+-- the test that no unit out is in the run says so, both ways
+module _ (n : ℕ) (out : NumSet) (r : ℕ) where
+  pub free-of : ((i : ℕ) → i < n → out i ≡ true → has r i ≡ false) → allTo n (freeAt out r) ≡ true
+  unfolding freeAt
+  free-of h = all-of n (freeAt out r) (λ i l. implies-of (out i) (not (has r i)) (λ o. not-of (has r i) (h i l o)))
+
+  pub free-at : allTo n (freeAt out r) ≡ true → (i : ℕ) → i < n → out i ≡ true → has r i ≡ false
+  unfolding freeAt
+  free-at e i l o = not-at (has r i) (implies-at (out i) (not (has r i)) (all-at n (freeAt out r) e i l) o)
+
+module _ (p : Problem) (t : ℕ) (out : NumSet) where
   -- ---- the test for a run that meets the demand
 
   -- it holds of every such run
   pub serves-of : (r : ℕ) → Serves p t out r → serves p t out r ≡ true
-  unfolding serves freeAt
+  unfolding serves
   serves-of r s =
       and-of (allTo (p .units) (freeAt out r)) (leb (p .demand t) (output p t (has r)))
-      (all-of (p .units) (freeAt out r) (λ i h. implies-of (out i) (not (has r i)) (λ o. not-of (has r i) (s .run .free i h o))))
+      (free-of (p .units) out r (s .run .free))
       (le-leb (p .demand t) (output p t (has r)) (s .meets))
 
   -- and of no other number of a set of units
   pub serves-at : (r : ℕ) → r < 2 ^ p .units → serves p t out r ≡ true → Serves p t out r
-  unfolding serves freeAt
+  unfolding serves
   serves-at r b e = record {
-    run = record { units = b; free = λ i h o. not-at (has r i) (implies-at (out i) (not (has r i)) (all-at (p .units) (freeAt out r) frees i h) o) };
+    run = record { units = b; free = free-at (p .units) out r frees };
     meets = leb-true (p .demand t) (output p t (has r)) (and-right (allTo (p .units) (freeAt out r)) (leb (p .demand t) (output p t (has r))) e);
   }
     where
@@ -198,7 +208,7 @@ module _ (p : Problem) (t : ℕ) (out : Set) where
       go (inr (inl e)) = e
       go (inr (inr e)) = absurd (omega (arith, a .first q (b .serves) e, b .least r (a .serves)))
 
-module _ (p : Problem) (t : ℕ) (a b : Set) (fewer : (i : ℕ) → i < p .units → a i ≡ true → b i ≡ true) where
+module _ (p : Problem) (t : ℕ) (a b : NumSet) (fewer : (i : ℕ) → i < p .units → a i ≡ true → b i ≡ true) where
   -- a run that serves with more units out serves with fewer out
   pub fewer-out : (r : ℕ) → Serves p t b r → Serves p t a r
   fewer-out r s = record { run = record { units = s .run .units; free = λ i h o. s .run .free i h (fewer i h o) }; meets = s .meets }

@@ -2,19 +2,18 @@
 -- Assumes nothing.
 use Prim.Native.Nat.{ℕ, zero, suc, _≤_, _<_}
 use mathlib.Core.Path.{_≡_, refl, sym, _∙_, ap, ap₂}
-use mathlib.Core.Bool.{Bool, true, false}
+use mathlib.Core.Bool.{Bool}
 use native.Mathlib.Omega.{arith}
 use lib.Dec.{eqb}
 use borrow.Author.Tests.{eq-eqb}
 use Rattle.sums.specs.Logic.{if}
-use Rattle.sums.specs.Set.{has, numberOf}
-use Rattle.sums.proofs.SetLaws.{number-below, number-has}
+use Rattle.sums.proofs.NumSetLaws.{number-below, number-has}
 use Rattle.model.specs.Problem.{Problem, Fair}
 use Rattle.model.specs.Grid.{States, OFF, ON, MAINT, isOn, isMaint, Cells}
 use Rattle.model.specs.Rules.{broken, cost9}
-use Rattle.model.specs.Judgement.{Judgement, soundAt, breaks, judgement}
-use Rattle.model.specs.Schedule.{Schedule, inSpan, outIn, layOut, Sound, cost}
-use Rattle.model.specs.Plan.{Plan, Overhaul, shownStart, shownRun, shown}
+use Rattle.model.specs.Judgement.{soundAt, judgement}
+use Rattle.model.specs.Schedule.{Schedule, outIn, layOut, Sound, cost}
+use Rattle.model.specs.Plan.{shownRun, shown}
 use Rattle.model.proofs.RuleLaws.{Rules, broken-none, weeks-keep}
 use Rattle.model.proofs.OverhaulLaws.{rules-overhauls}
 use Rattle.model.proofs.ScheduleLaws.{Shows, layout-shows, maint-not-on, week-meets, week-compatible, shown-cost, plan-keeps, sound-plan, plan-sound, cost-plan}

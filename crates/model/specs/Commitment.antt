@@ -7,7 +7,7 @@ use lib.Dec.{ltb, leb, eqb}
 use Rattle.sums.specs.Logic.{if, implies}
 use Rattle.sums.specs.Sum.{sumTo}
 use Rattle.sums.specs.Range.{allTo}
-use Rattle.sums.specs.Set.{Set, pick, has}
+use Rattle.sums.specs.NumSet.{NumSet, pick, has}
 use Rattle.model.specs.Problem.{Problem}
 use Rattle.model.specs.Rules.{output}
 use Rattle.model.specs.Schedule.{IsRun}
@@ -21,18 +21,18 @@ unfoldable pub runBefore : Problem → ℕ → ℕ → Bool
 runBefore p q r = ltb q r
 
 -- r is a run of week t, with the units of `out` out, that meets the demand
-pub record Serves (p : Problem) (t : ℕ) (out : Set) (r : ℕ) : Type 0 where
+pub record Serves (p : Problem) (t : ℕ) (out : NumSet) (r : ℕ) : Type 0 where
   pub run : IsRun p out r
   pub meets : p .demand t ≤ output p t (has r)
 
 -- of the runs that meet the demand, r costs least, and among equals it is the earliest
-pub record Cheapest (p : Problem) (t : ℕ) (out : Set) (r : ℕ) : Type 0 where
+pub record Cheapest (p : Problem) (t : ℕ) (out : NumSet) (r : ℕ) : Type 0 where
   pub serves : Serves p t out r
   pub least : (q : ℕ) → Serves p t out q → runCost p t r ≤ runCost p t q
   pub first : (q : ℕ) → Serves p t out q → runBefore p q r ≡ true → runCost p t r < runCost p t q
 
 -- no run meets the demand
-abbrev pub NoRun : Problem → ℕ → Set → Type 0
+abbrev pub NoRun : Problem → ℕ → NumSet → Type 0
 NoRun p t out = (q : ℕ) → Serves p t out q → ⊥
 
 -- ---- the same, computed
@@ -43,15 +43,16 @@ pub data Pick : Type 0 where
   picked : ℕ → Pick
 
 -- what `Cheapest` and `NoRun` say of a result
-abbrev pub IsPick : Problem → ℕ → Set → Pick → Type 0
+abbrev pub IsPick : Problem → ℕ → NumSet → Pick → Type 0
 IsPick p t out nothing = NoRun p t out
 IsPick p t out (picked r) = Cheapest p t out r
 
 -- unit i is not both out and in the run
-unfoldable pub freeAt : Set → ℕ → ℕ → Bool
+unfoldable pub freeAt : NumSet → ℕ → ℕ → Bool
 freeAt out r i = implies (out i) (not (has r i))
 
-unfoldable pub serves : Problem → ℕ → Set → ℕ → Bool
+-- `Serves`, as a test of the number of a set of units
+unfoldable pub serves : Problem → ℕ → NumSet → ℕ → Bool
 unfolding freeAt
 serves p t out r = allTo (p .units) (freeAt out r) && leb (p .demand t) (output p t (has r))
 
@@ -67,11 +68,12 @@ improve p t r nothing = picked r
 improve p t r (picked q) = if (cheaper p t r q) (picked r) (picked q)
 
 -- the cheapest of the runs below n
-unfoldable pub cheapestTo : Problem → ℕ → Set → ℕ → Pick
+unfoldable pub cheapestTo : Problem → ℕ → NumSet → ℕ → Pick
 unfolding serves improve
 cheapestTo p t out zero = nothing
 cheapestTo p t out (suc n) = if (serves p t out n) (improve p t n (cheapestTo p t out n)) (cheapestTo p t out n)
 
-unfoldable pub cheapestRun : Problem → ℕ → Set → Pick
+-- the cheapest run of week t, with the units of `out` out
+unfoldable pub cheapestRun : Problem → ℕ → NumSet → Pick
 unfolding cheapestTo
 cheapestRun p t out = cheapestTo p t out (2 ^ p .units)

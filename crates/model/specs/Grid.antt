@@ -4,18 +4,22 @@ use Prim.Native.Nat.{ℕ, _+_, _*_, _≤_, _<_}
 use mathlib.Core.List.{List}
 use lib.ListN.{getD}
 use lib.Dec.{eqb}
-use Rattle.sums.specs.Set.{Set}
+use Rattle.sums.specs.NumSet.{NumSet}
 use Rattle.model.specs.Problem.{Problem}
 
+-- the status of each unit in each period (figure 13, output)
 abbrev pub States : Type 0
 States = ℕ → ℕ → ℕ
 
+-- the bytes of document 01: 0 OFF
 abbrev pub OFF : ℕ
 OFF = 0
 
+-- 1 ON
 abbrev pub ON : ℕ
 ON = 1
 
+-- 2 MAINT
 abbrev pub MAINT : ℕ
 MAINT = 2
 
@@ -23,13 +27,14 @@ MAINT = 2
 unfoldable pub cell : ℕ → List ℕ → States
 cell u g t i = getD g (t * u + i) 0
 
--- the units ON in week t, and the units in maintenance in week t
-unfoldable pub isOn : States → ℕ → Set
+-- the units ON in week t: z of formula (1)
+unfoldable pub isOn : States → ℕ → NumSet
 isOn x t i = eqb (x t i) ON
 
-unfoldable pub isMaint : States → ℕ → Set
+-- the units in maintenance in week t: y of formula (7)
+unfoldable pub isMaint : States → ℕ → NumSet
 isMaint x t i = eqb (x t i) MAINT
 
--- every cell of the problem has one of the three states
+-- every cell of the problem has one of the three states; a cell above 2 is refusal 12
 abbrev pub Cells : Problem → States → Type 0
 Cells p x = (t i : ℕ) → t < p .weeks → i < p .units → x t i ≤ MAINT

@@ -12,6 +12,7 @@ use Rattle.model.specs.Verdict.{Verdict, accepted, refused, andThen}
 use Rattle.model.specs.Reading.{readOf}
 use Rattle.model.specs.Refusal.{gridVerdict}
 
+-- the judge's answer
 pub data Judgement : Type 0 where
   -- sound at a cost
   soundAt : ℕ → Judgement
@@ -20,9 +21,11 @@ pub data Judgement : Type 0 where
   -- turned away: a refusal's number and place
   rejected : ℕ → ℕ → Judgement
 
+-- the cost of formula (9), or the smallest number among the formulas (1) to (8) broken
 unfoldable pub judgement : Problem → States → Judgement
 judgement p x = if (eqb (broken p x) 0) (soundAt (cost9 p x)) (breaks (broken p x))
 
+-- a judgement where nothing is refused
 abbrev pub judged : Verdict → Judgement → Judgement
 judged accepted j = j
 judged (refused number place) j = rejected number place

@@ -20,7 +20,7 @@ startsFrom p i [] = true
 startsFrom p i (s ∷ ss) = permitted p i s && startsFrom p (i + 1) ss
 
 -- a place: permitted starts for units 1 to j, 1 ≤ j ≤ U
-pub record IsPrefix (p : Problem) (ss : List ℕ) : Type 0 where
+pub record ValidPrefix (p : Problem) (ss : List ℕ) : Type 0 where
   pub some : 1 ≤ length ss
   pub within : length ss ≤ p .units
   pub permits : startsFrom p 0 ss ≡ true
@@ -41,19 +41,21 @@ unfoldable pub countPrefixes : Problem → (List ℕ → Bool) → ℕ
 unfolding startsFrom
 countPrefixes p q = sumTo (p .units) (λ j. countLists (j + 1) (p .weeks + 1) (λ ss. startsFrom p 0 ss && q ss))
 
--- the number of places, and a place's rank: the number of places before it
+-- the number of places
 unfoldable pub prefixes : Problem → ℕ
 unfolding countPrefixes
 prefixes p = countPrefixes p (λ ss. true)
 
+-- a place's rank: the number of places before it
 unfoldable pub rank : Problem → List ℕ → ℕ
 unfolding countPrefixes before
 rank p ss = countPrefixes p (λ qs. before qs ss)
 
--- W + W ^ 2 + .. + W ^ U, and the sizing figure
+-- W + W ^ 2 + .. + W ^ U
 unfoldable pub spaceSum : Problem → ℕ
 spaceSum p = sumTo (p .units) (λ j. p .weeks ^ (j + 1))
 
+-- the sizing figure: the smaller of 268,435,455 and that sum
 unfoldable pub spaceBound : Problem → ℕ
 unfolding spaceSum
 spaceBound p = min 268435455 (spaceSum p)

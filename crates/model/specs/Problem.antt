@@ -3,6 +3,7 @@
 -- Assumes nothing.
 use Prim.Native.Nat.{ℕ, _≤_, _<_}
 
+-- the input parameters of figure 13
 pub record Problem : Type 0 where
   -- W, U and M
   pub weeks : ℕ
@@ -24,7 +25,8 @@ pub record Problem : Type 0 where
   pub pairA : ℕ → ℕ
   pub pairB : ℕ → ℕ
 
--- what the laws ask of a problem, and every accepted file has: starts from 1 on, overhauls of a week or more, pairs of units
+-- what the laws ask of a problem beyond its type, and what the tests of document 01's file table are to give: starts from 1 on,
+-- overhauls of a week or more, pairs of units
 pub record Fair (p : Problem) : Type 0 where
   pub from-one : (i : ℕ) → i < p .units → 1 ≤ p .earliest i
   pub some-weeks : (i : ℕ) → i < p .units → 1 ≤ p .duration i

@@ -2,7 +2,7 @@
 -- (document 01, "Words of the plan file" and refusals 1 to 7). A word is tested for its kind, its range, then its relation.
 -- Assumes nothing.
 use Prim.Native.Nat.{ℕ, zero, suc, _+_, _-_, _/_, _%_}
-use mathlib.Core.Bool.{Bool, true, false, _&&_, _||_}
+use mathlib.Core.Bool.{Bool, _&&_, _||_}
 use mathlib.Core.List.{List}
 use lib.ListN.{length}
 use lib.Dec.{ltb, leb, eqb}
@@ -59,6 +59,7 @@ valueFault l q prev k v =
     (if (eqb k 10) (pairFault l q prev v)
     (if (eqb k 15) (endFault q v) 1))))))))
 
+-- kind, then range and relation: refusal 1 where the kind is not the one due
 unfoldable pub faultFor : Layout → ℕ → ℕ → ℕ → ℕ → ℕ
 unfolding fitsDue dueAt valueFault
 faultFor l q prev k v = if (fitsDue k (dueAt l q)) (valueFault l q prev k v) 1
@@ -78,6 +79,7 @@ readFrom ws q (suc n) =
     (if (eqb (kindAt ws q) 15) (if (eqb n 0) accepted (refused 7 (q + 1))) rest)
     (refused (faultAt ws q) q)
 
+-- the verdict on a file
 unfoldable pub readOf : List ℕ → Verdict
 unfolding readFrom
 readOf ws = readFrom ws 0 (length ws)

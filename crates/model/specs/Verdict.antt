@@ -4,6 +4,7 @@ use Prim.Native.Nat.{ℕ, zero, suc, _+_}
 use lib.Dec.{eqb}
 use Rattle.sums.specs.Logic.{if}
 
+-- accepted, or a refusal: a number and a place
 pub data Verdict : Type 0 where
   accepted : Verdict
   -- the refusal's number, and the place from 0 in its own list

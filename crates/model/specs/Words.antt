@@ -11,17 +11,20 @@ infix 68 _∶_
 abbrev pub _∶_ : ℕ → ℕ → ℕ
 k ∶ v = k * 268435456 + v
 
--- the top 4 bits are the kind, the low 28 bits the value; 268435456 is 2 ^ 28
+-- the top 4 bits are the kind; 268435456 is 2 ^ 28
 unfoldable pub kindOf : ℕ → ℕ
 kindOf x = x / 268435456
 
+-- the low 28 bits are the value
 unfoldable pub valueOf : ℕ → ℕ
 valueOf x = x % 268435456
 
+-- the kind of the word at a place
 unfoldable pub kindAt : List ℕ → ℕ → ℕ
 unfolding kindOf
 kindAt ws q = kindOf (getD ws q 0)
 
+-- the value of the word at a place
 unfoldable pub valueAt : List ℕ → ℕ → ℕ
 unfolding valueOf
 valueAt ws q = valueOf (getD ws q 0)
@@ -38,6 +41,7 @@ pub record Layout : Type 0 where
   -- excluded pairs; without any, the end word
   pub pairs : ℕ
 
+-- of w weeks and u units: W demands, U triples, W × U costs of each kind
 unfoldable pub layoutFor : ℕ → ℕ → Layout
 layoutFor w u = record {
   weeks = w;
@@ -48,11 +52,12 @@ layoutFor w u = record {
   pairs = 3 + w + 3 * u + w * u + w * u;
 }
 
+-- the layout that the first two words announce
 unfoldable pub layoutOf : List ℕ → Layout
 unfolding layoutFor
 layoutOf ws = layoutFor (valueAt ws 0) (valueAt ws 1)
 
--- weeks, units and pairs count from 0 here, units in a pair's word from 1
+-- the problem that a file means. Weeks, units and pairs count from 0 here, units in a pair's word from 1
 unfoldable pub problemOf : List ℕ → Problem
 unfolding layoutOf
 problemOf ws = record {

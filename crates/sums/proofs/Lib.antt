@@ -7,4 +7,4 @@ pub mod RangeLaws
 -- laws of counts, and of sums that count
 pub mod CountLaws
 -- laws of sums over sets, and of the number that stands for a set
-pub mod SetLaws
+pub mod NumSetLaws

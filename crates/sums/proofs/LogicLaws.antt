@@ -8,7 +8,7 @@ use native.Mathlib.Nat.{eq-or-lt-of-le}
 use native.Mathlib.Omega.{arith}
 use lib.Dec.{T, ltb}
 use borrow.Author.Tests.{ltb-true, ltb-false, lt-ltb}
-use Rattle.sums.specs.Logic.{if, implies}
+use Rattle.sums.specs.Logic.{implies}
 
 pub true-false {ℓ} : {A : Type ℓ} → true ≡ false → A
 true-false e = let z : _≡_ {A = ℕ} 0 1 = cc in absurd (omega arith)

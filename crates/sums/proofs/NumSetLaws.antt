@@ -3,20 +3,20 @@
 use Prim.Native.Nat.{ℕ, zero, suc, _+_, _*_, _-_, _/_, _%_, _^_, _≤_, _<_}
 use mathlib.Core.Path.{_≡_, refl, sym, _∙_, ap, subst}
 use mathlib.Core.Bool.{Bool, true, false, not}
-use mathlib.Core.Logic.{_⊎_, inl, inr, ⊎-elim}
+use mathlib.Core.Logic.{⊎-elim}
 use native.Mathlib.Nat.{eq-or-lt-of-le, le-of-suc-le-suc, not-suc-le-zero, pow-suc, one-mul, zero-mul}
 use native.Mathlib.Omega.{arith}
 use lib.Dec.{eqb}
 use lib.Pow.{high, low, field, mod-mod-pow}
 use Rattle.sums.specs.Logic.{if}
 use Rattle.sums.specs.Sum.{sumTo, added}
-use Rattle.sums.specs.Set.{Set, pick, away, power, numberOf, has}
+use Rattle.sums.specs.NumSet.{NumSet, pick, away, power, numberOf, has}
 use Rattle.sums.proofs.LogicLaws.{true-false}
 use Rattle.sums.proofs.SumLaws.{sum-mono, sum-same, sum-added}
 
 -- ---- sums over sets
 
-pick-split : (p : Set) (f : ℕ → ℕ) (k : ℕ) → f k ≡ pick p f k + pick (away p) f k
+pick-split : (p : NumSet) (f : ℕ → ℕ) (k : ℕ) → f k ≡ pick p f k + pick (away p) f k
 unfolding pick away
 pick-split p f k = go (p k)
   where
@@ -25,11 +25,11 @@ pick-split p f k = go (p k)
     go false = omega arith
 
 -- a sum is the sum over a set and the sum over the rest
-pub sum-split : (n : ℕ) (p : Set) (f : ℕ → ℕ) → sumTo n f ≡ sumTo n (pick p f) + sumTo n (pick (away p) f)
+pub sum-split : (n : ℕ) (p : NumSet) (f : ℕ → ℕ) → sumTo n f ≡ sumTo n (pick p f) + sumTo n (pick (away p) f)
 unfolding added
 sum-split n p f = sum-same n f (added (pick p f) (pick (away p) f)) (λ k l. pick-split p f k) ∙ sum-added n (pick p f) (pick (away p) f)
 
-pick-mono : (p q : Set) (f : ℕ → ℕ) (k : ℕ) → (p k ≡ true → q k ≡ true) → pick p f k ≤ pick q f k
+pick-mono : (p q : NumSet) (f : ℕ → ℕ) (k : ℕ) → (p k ≡ true → q k ≡ true) → pick p f k ≤ pick q f k
 unfolding pick
 pick-mono p q f k h = go (p k) (q k) h
   where
@@ -39,11 +39,11 @@ pick-mono p q f k h = go (p k) (q k) h
     go true false e = true-false (sym (e refl))
 
 -- a larger set has the larger sum
-pub sum-subset : (n : ℕ) (p q : Set) (f : ℕ → ℕ) → ((k : ℕ) → k < n → p k ≡ true → q k ≡ true) → sumTo n (pick p f) ≤ sumTo n (pick q f)
+pub sum-subset : (n : ℕ) (p q : NumSet) (f : ℕ → ℕ) → ((k : ℕ) → k < n → p k ≡ true → q k ≡ true) → sumTo n (pick p f) ≤ sumTo n (pick q f)
 sum-subset n p q f h = sum-mono n (pick p f) (pick q f) (λ k l. pick-mono p q f k (h k l))
 
 -- sets that agree below n have the same sum
-pub pick-agree : (n : ℕ) (p q : Set) (f : ℕ → ℕ) → ((k : ℕ) → k < n → q k ≡ p k) → sumTo n (pick q f) ≡ sumTo n (pick p f)
+pub pick-agree : (n : ℕ) (p q : NumSet) (f : ℕ → ℕ) → ((k : ℕ) → k < n → q k ≡ p k) → sumTo n (pick q f) ≡ sumTo n (pick p f)
 unfolding pick
 pick-agree n p q f h = sum-same n (pick q f) (pick p f) (λ k l. ap (λ (b : Bool). if b (f k) 0) (h k l))
 
@@ -59,7 +59,7 @@ unfolding digit
 digit-is true = refl
 digit-is false = refl
 
-pub number-below : (n : ℕ) (p : Set) → numberOf n p < 2 ^ n
+pub number-below : (n : ℕ) (p : NumSet) → numberOf n p < 2 ^ n
 unfolding numberOf sumTo pick power
 number-below zero p = omega arith
 number-below (suc n) p = go (p n) (number-below n p)
@@ -68,7 +68,7 @@ number-below (suc n) p = go (p n) (number-below n p)
     go true h = rw pow-suc (omega arith)
     go false h = rw pow-suc (omega arith)
 
-number-suc : (n : ℕ) (p : Set) → numberOf (suc n) p ≡ digit (p n) * 2 ^ n + numberOf n p
+number-suc : (n : ℕ) (p : NumSet) → numberOf (suc n) p ≡ digit (p n) * 2 ^ n + numberOf n p
 unfolding numberOf sumTo pick power digit
 number-suc n p = go (p n)
   where
@@ -89,7 +89,7 @@ low-bit d k i v h =
         rw q at (sym (mod-mod-pow a k (suc i)) ∙ ap (λ (z : ℕ). z % 2 ^ suc i) e)
 
 -- the members of the number are those of the set
-pub number-has : (n : ℕ) (p : Set) (i : ℕ) → i < n → has (numberOf n p) i ≡ p i
+pub number-has : (n : ℕ) (p : NumSet) (i : ℕ) → i < n → has (numberOf n p) i ≡ p i
 unfolding has
 number-has zero p i h = absurd (not-suc-le-zero h)
 number-has (suc n) p i h =
