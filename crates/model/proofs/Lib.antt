@@ -18,3 +18,7 @@ pub mod OrderLaws
 pub mod NogoodLaws
 -- a block's words determine its answer, and the words of a run determine what each ask is told
 pub mod AnswerLaws
+-- what an accepted verdict says word by word, and what a word without a fault is
+pub mod ReadingLaws
+-- an accepted file is complete, and its figures lie in their ranges
+pub mod FileLaws

@@ -1,5 +1,6 @@
 -- the problem and its grids
 pub mod Problem
+pub mod Pairs
 pub mod Grid
 pub mod Rules
 pub mod Judgement
@@ -13,7 +14,10 @@ pub mod Prefix
 -- the words of files, asks and lent memory
 pub mod Words
 pub mod Verdict
+pub mod Bytes
 pub mod Reading
+pub mod Ranges
+pub mod Sizing
 pub mod Refusal
 -- answers
 pub mod Best

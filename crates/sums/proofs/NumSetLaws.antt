@@ -4,7 +4,7 @@ use Prim.Native.Nat.{ℕ, zero, suc, _+_, _*_, _-_, _/_, _%_, _^_, _≤_, _<_}
 use mathlib.Core.Path.{_≡_, refl, sym, _∙_, ap, subst}
 use mathlib.Core.Bool.{Bool, true, false, not}
 use mathlib.Core.Logic.{⊎-elim}
-use native.Mathlib.Nat.{eq-or-lt-of-le, le-of-suc-le-suc, not-suc-le-zero, pow-suc, one-mul, zero-mul}
+use native.Mathlib.Nat.{eq-or-lt-of-le, le-of-suc-le-suc, not-suc-le-zero, pow-suc, one-mul, zero-mul, zero-div}
 use native.Mathlib.Omega.{arith}
 use lib.Dec.{eqb}
 use lib.Pow.{high, low, field, mod-mod-pow}
@@ -107,3 +107,8 @@ number-has (suc n) p i h =
         let e : n ≡ (n - suc i) + suc i = omega arith in
         let b : numberOf n p < 2 ^ ((n - suc i) + suc i) = subst (λ (z : ℕ). numberOf n p < 2 ^ z) e (number-below n p) in
         ap (λ (z : ℕ). (digit (p n) * 2 ^ z + numberOf n p) / 2 ^ i % 2) e ∙ low-bit (digit (p n)) (n - suc i) i (numberOf n p) b
+
+-- 0 stands for the empty set
+pub zero-has : (k : ℕ) → has 0 k ≡ false
+unfolding has
+zero-has k = ap (λ (z : ℕ). eqb (z % 2) 1) (zero-div (2 ^ k))

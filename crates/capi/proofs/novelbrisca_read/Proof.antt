@@ -1,0 +1,24 @@
+-- Assumes nothing.
+use Rattle.capi.proofs.CodeLaws.{codes}
+use borrow.Author.Needs.{needs}
+use Rattle.capi.proofs.novelbrisca_read.Statement.{statement}
+use Rattle.capi.proofs.novelbrisca_read.Tie as tie
+use Rattle.capi.proofs.novelbrisca_read.Reads as reads
+use Rattle.capi.proofs.novelbrisca_read.Lts as lts
+use Rattle.capi.proofs.refusal_number.Reads as refusal-number-reads
+use Rattle.decoder.proofs.read.Reads as read-reads
+
+-- src/lib.rt:66:9
+read-requires : tie.Need-read-requires
+read-requires c κs = search needs
+
+-- src/lib.rt:67:5
+refusal-number-requires : tie.Need-refusal-number-requires
+refusal-number-requires c κs = search needs
+
+-- src/lib.rt:62:1
+returns : tie.Need-returns
+returns c = search codes
+
+pub novelbrisca-read-spec : {M : Type 1} → statement M
+novelbrisca-read-spec = tie.close (tie.spec read-requires refusal-number-requires returns)

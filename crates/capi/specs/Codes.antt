@@ -1,0 +1,24 @@
+-- Answers as plain numbers, case by case, for callers that have no enums.
+-- Assumes nothing.
+use Prim.Native.Nat.{ℕ}
+use Rattle.model.specs.Verdict.{Verdict, accepted, refused, Reply, gives, denies}
+
+-- the refusal's number, 0 where the input is accepted
+unfoldable pub refusedBy : Verdict → ℕ
+refusedBy accepted = 0
+refusedBy (refused number place) = number
+
+-- the refusal's place, 0 where the input is accepted
+unfoldable pub refusedAt : Verdict → ℕ
+refusedAt accepted = 0
+refusedAt (refused number place) = place
+
+-- the refusal's number, 0 where a number is given
+unfoldable pub deniedBy : Reply → ℕ
+deniedBy (gives n) = 0
+deniedBy (denies number place) = number
+
+-- the number given, 0 where the call is refused
+unfoldable pub given : Reply → ℕ
+given (gives n) = n
+given (denies number place) = 0

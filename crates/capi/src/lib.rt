@@ -1,0 +1,86 @@
+// The functions that Rust and C link: numbers and slices only, no `requires`. A call that can be refused answers with the refusal's number,
+// 0 for none; a second function gives the place.
+ghost use mathlib.Core.Path.{_≡_};
+ghost use lib.ListN.{length};
+ghost use Rattle.model.specs.Bytes.{loadOf, loadedInto};
+ghost use Rattle.model.specs.Reading.{readOf};
+ghost use Rattle.model.specs.Sizing.{sizingOf};
+ghost use Rattle.decoder.specs.Answers.{verdictOf, replyOf};
+ghost use Rattle.capi.specs.Codes.{refusedBy, refusedAt, deniedBy, given};
+
+// The number of a verdict's refusal.
+pub fn refusal_number(v: decoder::Verdict) -> u32
+    ensures { λ r. ⌜ r ≡ refusedBy (verdictOf v) ⌝ }
+{
+    match v {
+        decoder::Verdict::Accepted => 0,
+        decoder::Verdict::Refused(number, place) => number,
+    }
+}
+
+// The place of a verdict's refusal.
+pub fn refusal_place(v: decoder::Verdict) -> usize
+    ensures { λ r. ⌜ r ≡ refusedAt (verdictOf v) ⌝ }
+{
+    match v {
+        decoder::Verdict::Accepted => 0,
+        decoder::Verdict::Refused(number, place) => place,
+    }
+}
+
+// The number of a reply's refusal.
+pub fn denial_number(reply: decoder::Reply) -> u32
+    ensures { λ r. ⌜ r ≡ deniedBy (replyOf reply) ⌝ }
+{
+    match reply {
+        decoder::Reply::Number(n) => 0,
+        decoder::Reply::Denied(number, place) => number,
+    }
+}
+
+// The number that a reply gives, 0 where it is a refusal.
+pub fn number_given(reply: decoder::Reply) -> usize
+    ensures { λ r. ⌜ r ≡ given (replyOf reply) ⌝ }
+{
+    match reply {
+        decoder::Reply::Number(n) => n,
+        decoder::Reply::Denied(number, place) => 0,
+    }
+}
+
+// Bytes to words: the refusal's number, 0 where a word for each four bytes was written. Its place is always 0.
+#[no_mangle]
+pub extern "C" fn novelbrisca_load(bytes: &[u8], words: &mut [u32]) -> u32
+    ensures answer { λ r. ⌜ r ≡ deniedBy (loadOf (now (bytes .entry)) (length (now (words .entry)))) ⌝ }
+    ensures buffer { λ r. ⌜ now (words .exit) ≡ loadedInto (loadOf (now (bytes .entry)) (length (now (words .entry)))) (now (bytes .entry)) (now (words .entry)) ⌝ }
+{
+    let reply = decoder::load(bytes, words);
+    denial_number(reply)
+}
+
+// A plan file: the refusal's number, 0 where it is accepted.
+#[no_mangle]
+pub extern "C" fn novelbrisca_read(words: &[u32]) -> u32
+    ensures { λ r. ⌜ r ≡ refusedBy (readOf (now (words .entry))) ⌝ }
+{
+    let v = decoder::read(words);
+    refusal_number(v)
+}
+
+// The place of that refusal, 0 where the file is accepted.
+#[no_mangle]
+pub extern "C" fn novelbrisca_read_place(words: &[u32]) -> usize
+    ensures { λ r. ⌜ r ≡ refusedAt (readOf (now (words .entry))) ⌝ }
+{
+    let v = decoder::read(words);
+    refusal_place(v)
+}
+
+// The sizing figure, 0 where the file is refused; number and place are then those of the file.
+#[no_mangle]
+pub extern "C" fn novelbrisca_sizing(words: &[u32]) -> usize
+    ensures { λ r. ⌜ r ≡ given (sizingOf (now (words .entry))) ⌝ }
+{
+    let reply = decoder::sizing(words);
+    number_given(reply)
+}

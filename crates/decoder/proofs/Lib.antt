@@ -1,0 +1,10 @@
+-- the arms of the match over kinds: the test of the value
+pub mod ArmLaws
+-- and the next stage
+pub mod StageLaws
+-- the reader's steps
+pub mod StepLaws
+-- bytes to words
+pub mod BytesLaws
+-- the sizing figure
+pub mod SizingLaws

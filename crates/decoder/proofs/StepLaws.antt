@@ -1,0 +1,154 @@
+-- The reader's steps, every premise as the loops have it: past a word of the same stage, to a refusal, or to the end word.
+-- Assumes nothing.
+use Prim.Native.Nat.{ℕ, suc, _+_, _-_, _*_, _%_, _^_, _≤_, _<_}
+use mathlib.Core.Path.{_≡_, refl, sym, _∙_, ap}
+use mathlib.Core.Bool.{Bool, true, false, _&&_, _||_}
+use mathlib.Core.List.{List}
+use mathlib.Core.Logic.{⊎-elim}
+use native.Mathlib.Omega.{arith}
+use lib.Dec.{eqb}
+use lib.ListN.{length, getD}
+use borrow.Author.Tests.{eq-eqb, ne-eqb, eqb-true}
+use Rattle.sums.specs.Logic.{if}
+use Rattle.model.specs.declared.Layout.{Layout}
+use Rattle.model.specs.Words.{_∶_, kindOf, valueOf, kindAt, valueAt, Laid, layoutOf}
+use Rattle.model.specs.Verdict.{accepted, refused}
+use Rattle.model.specs.Reading.{dueAt, fitsDue, valueFault, faultFor, faultAt, readFrom, readOf}
+use Rattle.model.proofs.ReadingLaws.{layout-laid, kind-fits}
+use Rattle.decoder.specs.Stages.{Onward, Passes, Clear, Passed}
+
+-- ---- the word at a place
+
+-- before the first word the place is again the first
+pub before-first : (ws : List ℕ) (q r : ℕ) → q ≡ 0 → r ≡ valueAt ws 0 → r ≡ valueAt ws (q - 1)
+before-first ws q r e t = rw e t
+
+-- the sections of a file's own layout follow one another
+pub laid-here : (ws : List ℕ) (l : Layout) → l ≡ layoutOf ws → Laid l
+laid-here ws l e = rw e (layout-laid ws)
+
+-- the fault of the word that was taken apart
+pub fault-here : (ws : List ℕ) (l : Layout) (q prev k v r : ℕ) → l ≡ layoutOf ws → prev ≡ valueAt ws (q - 1) → k ≡ kindOf (getD ws q 0)
+    → v ≡ valueOf (getD ws q 0) → r ≡ faultFor l q prev k v → r ≡ faultAt ws q
+unfolding faultAt kindAt valueAt
+fault-here ws l q prev k v r el ep ek ev t = rw (← el, ← ep, ← ek, ← ev) t
+
+-- and its stage
+pub onward-here : (ws : List ℕ) (l : Layout) (q k most next : ℕ) → k ≡ kindOf (getD ws q 0) → Onward l q k most next → Onward l q (kindAt ws q) most next
+unfolding kindAt
+onward-here ws l q k most next e on = rw (← e) on
+
+-- ---- the words of a stage pass
+
+-- a word without a fault that is not the end word has the kind due
+kind-due : (ws : List ℕ) (q : ℕ) → faultAt ws q ≡ 0 → (kindAt ws q ≡ 15 → ⊥) → dueAt (layoutOf ws) q ≡ kindAt ws q
+kind-due ws q clear inner =
+    ⊎-elim (λ (e : kindAt ws q ≡ dueAt (layoutOf ws) q). sym e) (λ (e : (dueAt (layoutOf ws) q ≡ 10) × (kindAt ws q ≡ 15)). absurd (inner (e .1))) (kind-fits ws q clear)
+
+-- what the stage of the word at place q says of the words after it
+pub stage-clear : (ws : List ℕ) (l : Layout) (q k most next f : ℕ) → l ≡ layoutOf ws → k ≡ kindOf (getD ws q 0) → f ≡ faultAt ws q → f ≡ 0
+    → (k ≡ 15 → ⊥) → Onward l q (kindAt ws q) most next → Clear ws q most next
+unfolding faultAt kindAt
+stage-clear ws l q k most next f laid kind is none inner on = record {
+  free = λ p a b e v.
+      let due : dueAt l q ≡ kindAt ws q = rw laid (kind-due ws q (sym is ∙ none) (λ h. inner (kind ∙ h))) in
+      record {
+        faultless = rw (e, sym laid) (on .free due p (valueAt ws (p - 1)) (valueAt ws p) a b v);
+        inner = λ h. inner (kind ∙ (sym e ∙ h));
+      };
+}
+
+-- a word at a distance up to most from the kind's word of value 0 has that kind and a value up to most
+module _ (k y most low d : ℕ) (s : most < 268435456) (at : low ≡ k * 268435456) (top : low ≤ 4026531840) (is : (d + low) % 2 ^ 32 ≡ y) (near : d ≤ most) where
+  near-kind : kindOf y ≡ k
+  unfolding kindOf
+  near-kind = omega arith
+
+  near-value : valueOf y ≤ most
+  unfolding valueOf
+  near-value = omega arith
+
+-- ---- steps of the verdict
+
+-- the verdict at a word, by its three tests
+read-suc : (ws : List ℕ) (q n : ℕ) → readFrom ws q (suc n)
+    ≡ if (eqb (faultAt ws q) 0) (if (eqb (kindAt ws q) 15) (if (eqb n 0) accepted (refused 7 (q + 1))) (readFrom ws (q + 1) n)) (refused (faultAt ws q) q)
+unfolding readFrom
+read-suc ws q n = refl
+
+module _ (ws : List ℕ) (q : ℕ) (h : q < length ws) where
+  read-one : readFrom ws q (length ws - q)
+      ≡ if (eqb (faultAt ws q) 0)
+      (if (eqb (kindAt ws q) 15) (if (eqb (length ws - (q + 1)) 0) accepted (refused 7 (q + 1))) (readFrom ws (q + 1) (length ws - (q + 1))))
+      (refused (faultAt ws q) q)
+  read-one = let e : length ws - q ≡ suc (length ws - (q + 1)) = omega arith in ap (readFrom ws q) e ∙ read-suc ws q (length ws - (q + 1))
+
+  step-next : Passes ws q → readFrom ws q (length ws - q) ≡ readFrom ws (q + 1) (length ws - (q + 1))
+  step-next w = read-one ∙ simp (w .faultless, ne-eqb _ _ (w .inner))
+
+  step-fault : (f : ℕ) → f ≡ faultAt ws q → (f ≡ 0 → ⊥) → readFrom ws q (length ws - q) ≡ refused f q
+  step-fault f is some = read-one ∙ simp (← is, ne-eqb _ _ some)
+
+  step-end : faultAt ws q ≡ 0 → kindAt ws q ≡ 15 → q + 1 ≡ length ws → readFrom ws q (length ws - q) ≡ accepted
+  step-end none last e = read-one ∙ simp (none, last, eq-eqb (length ws - (q + 1)) 0 (omega arith))
+
+  step-more : faultAt ws q ≡ 0 → kindAt ws q ≡ 15 → (q + 1 ≡ length ws → ⊥) → readFrom ws q (length ws - q) ≡ refused 7 (q + 1)
+  step-more none last e = read-one ∙ simp (none, last, ne-eqb (length ws - (q + 1)) 0 (omega arith))
+
+-- ---- past the words of a stage
+
+module _ (ws : List ℕ) (q : ℕ) where
+  -- the word after q
+  pub pass-start : q < length ws → (q < q + 1) × (q + 1 ≤ length ws) × (readFrom ws (q + 1) (length ws - (q + 1)) ≡ readFrom ws (q + 1) (length ws - (q + 1)))
+  pass-start h = (omega arith, omega arith, refl)
+
+  module _ (p : ℕ) (same : readFrom ws (q + 1) (length ws - (q + 1)) ≡ readFrom ws p (length ws - p)) where
+    -- one word more
+    pub pass-next : (most next end low d : ℕ) → Clear ws q most next → q < p → p < end → end ≤ next → end ≤ length ws → most < 268435456
+        → low ≡ kindOf (getD ws q 0) * 268435456 → low ≤ 4026531840 → (d + low) % 2 ^ 32 ≡ getD ws p 0 → d ≤ most
+        → readFrom ws (q + 1) (length ws - (q + 1)) ≡ readFrom ws (p + 1) (length ws - (p + 1))
+    unfolding kindAt valueAt
+    pass-next most next end low d clear a b c h s at top is near =
+        let kind : kindAt ws p ≡ kindAt ws q = near-kind (kindAt ws q) (getD ws p 0) most low d s at top is near in
+        let value : valueAt ws p ≤ most = near-value (kindAt ws q) (getD ws p 0) most low d s at top is near in
+        same ∙ step-next ws p (omega arith) (clear .free p a (omega arith) kind value)
+
+    -- the reader stops at p
+    pub pass-stop : q < p → p ≤ length ws → Passed ws q p
+    pass-stop a b = record { forth = a; inside = b; same = same }
+
+-- ---- the verdict from the beginning on
+
+-- before the first word
+pub read-start : (ws : List ℕ) → readOf ws ≡ readFrom ws 0 (length ws - 0)
+unfolding readOf
+read-start ws = let e : length ws ≡ length ws - 0 = omega arith in ap (readFrom ws 0) e
+
+module _ (ws : List ℕ) (q : ℕ) (inv : readOf ws ≡ readFrom ws q (length ws - q)) where
+  -- no word is left
+  pub read-out : length ws ≤ q → refused 1 q ≡ readOf ws
+  unfolding readFrom
+  read-out h = let e : length ws - q ≡ 0 = omega arith in sym (inv ∙ ap (readFrom ws q) e)
+
+  module _ (h : q < length ws) (f : ℕ) (is : f ≡ faultAt ws q) where
+    -- the word at q is refused
+    pub read-fault : (f ≡ 0 → ⊥) → refused f q ≡ readOf ws
+    read-fault some = sym (inv ∙ step-fault ws q h f is some)
+
+    module _ (none : f ≡ 0) (k : ℕ) (kind : k ≡ kindOf (getD ws q 0)) where
+      at-kind : k ≡ kindAt ws q
+      unfolding kindAt
+      at-kind = kind
+
+      -- the end word is the last
+      pub read-end : k ≡ 15 → q + 1 ≡ length ws → accepted ≡ readOf ws
+      read-end last e = sym (inv ∙ step-end ws q h (sym is ∙ none) (sym at-kind ∙ last) e)
+
+      -- words stand after the end word
+      pub read-more : k ≡ 15 → (q + 1 ≡ length ws → ⊥) → refused 7 (q + 1) ≡ readOf ws
+      read-more last e = sym (inv ∙ step-more ws q h (sym is ∙ none) (sym at-kind ∙ last) e)
+
+      -- the reader goes on to r
+      pub read-next : (r : ℕ) → (k ≡ 15 → ⊥) → Passed ws q r → readOf ws ≡ readFrom ws r (length ws - r)
+      read-next r inner on =
+          inv ∙ (step-next ws q h record { faultless = sym is ∙ none; inner = λ e. inner (at-kind ∙ e) } ∙ on .same)

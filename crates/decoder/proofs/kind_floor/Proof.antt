@@ -1,0 +1,19 @@
+-- Assumes nothing.
+use Rattle.model.specs.Words.{kindOf}
+use borrow.Author.Needs.{needs}
+use Rattle.decoder.proofs.kind_floor.Statement.{statement}
+use Rattle.decoder.proofs.kind_floor.Tie as tie
+use Rattle.decoder.proofs.kind_floor.Reads as reads
+use Rattle.decoder.proofs.kind_floor.Lts as lts
+
+-- src/lib.rt:227:5
+mul-result : tie.Need-mul-result
+mul-result c = search needs
+
+-- src/lib.rt:224:1
+returns : tie.Need-returns
+unfolding kindOf
+returns c = search needs
+
+pub kind-floor-spec : {M : Type 1} → statement M
+kind-floor-spec = tie.close (tie.spec mul-result returns)

@@ -1,0 +1,86 @@
+-- Assumes nothing.
+use Prim.Native.Nat.{_-_, _≤_}
+use mathlib.Core.Path.{_≡_, refl}
+use mathlib.Core.List.{_++_}
+use lib.ListN.{length, drop, length-set}
+use Rattle.model.specs.Bytes.{wordsTo}
+use Rattle.decoder.proofs.BytesLaws.{load-uneven, load-short, load-all, words-start, words-next, words-ended, words-kept}
+use borrow.Author.Needs.{needs}
+use Rattle.decoder.proofs.load.Statement.{statement}
+use Rattle.decoder.proofs.load.Tie as tie
+use Rattle.decoder.proofs.load.Reads as reads
+use Rattle.decoder.proofs.load.Lts as lts
+use Rattle.decoder.proofs.word_from.Reads as word-from-reads
+
+abbrev Inv-loop : tie.InvT-loop
+Inv-loop bytes words₀ n k₀ words k = (k ≤ n) × (length words ≡ length words₀) × (words ≡ wordsTo bytes k ++ drop k words₀)
+
+abbrev μ-loop : tie.MeasureT-loop
+μ-loop bytes words₀ n k₀ words k = n - k
+
+-- src/lib.rt:294:9
+returns : tie.Need-returns Inv-loop μ-loop
+returns c = (search load-uneven, search words-kept)
+
+-- src/lib.rt:298:9
+returns-2 : tie.Need-returns-2 Inv-loop μ-loop
+returns-2 c = (search load-short, search words-kept)
+
+-- src/lib.rt:300:5
+loop-holds : tie.Need-loop-holds Inv-loop μ-loop
+loop-holds c = (search needs, refl, search words-start)
+
+-- src/lib.rt:301:37
+mul-word-from : tie.Need-mul-word-from Inv-loop μ-loop
+mul-word-from c = search needs
+
+-- src/lib.rt:301:20
+word-from-requires : tie.Need-word-from-requires Inv-loop μ-loop
+word-from-requires c κs = search needs
+
+-- src/lib.rt:301:9
+mul-words : tie.Need-mul-words Inv-loop μ-loop
+mul-words c = search needs
+
+-- src/lib.rt:301:9
+slice-write-words : tie.Need-slice-write-words Inv-loop μ-loop
+slice-write-words c = search needs
+
+-- src/lib.rt:300:9
+add-k : tie.Need-add-k Inv-loop μ-loop
+add-k c = search needs
+
+-- src/lib.rt:300:5
+loop-less : tie.Need-loop-less Inv-loop μ-loop
+loop-less c = search needs
+
+-- src/lib.rt:300:5
+loop-again : tie.Need-loop-again Inv-loop μ-loop
+loop-again c = (search needs, search (needs, length-set), search words-next)
+
+-- src/lib.rt:289:1
+same-length : tie.Need-same-length Inv-loop μ-loop
+same-length c = search needs
+
+-- src/lib.rt:289:1
+returns-3 : tie.Need-returns-3 Inv-loop μ-loop
+returns-3 c = (search load-all, search words-ended)
+
+pub load-spec : {M : Type 1} → statement M
+load-spec =
+    tie.close
+    (tie.spec
+    Inv-loop
+    μ-loop
+    returns
+    returns-2
+    loop-holds
+    mul-word-from
+    word-from-requires
+    mul-words
+    slice-write-words
+    add-k
+    loop-less
+    loop-again
+    same-length
+    returns-3)

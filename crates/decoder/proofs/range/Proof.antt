@@ -1,0 +1,25 @@
+-- Assumes nothing.
+use Rattle.model.specs.Reading.{within}
+use Rattle.sums.proofs.Tests.{tests}
+use Rattle.decoder.proofs.range.Statement.{statement}
+use Rattle.decoder.proofs.range.Tie as tie
+use Rattle.decoder.proofs.range.Reads as reads
+use Rattle.decoder.proofs.range.Lts as lts
+
+-- src/lib.rt:43:9
+returns : tie.Need-returns
+unfolding within
+returns c = search tests
+
+-- src/lib.rt:46:9
+returns-2 : tie.Need-returns-2
+unfolding within
+returns-2 c = search tests
+
+-- src/lib.rt:39:1
+returns-3 : tie.Need-returns-3
+unfolding within
+returns-3 c = search tests
+
+pub range-spec : {M : Type 1} → statement M
+range-spec = tie.close (tie.spec returns returns-2 returns-3)

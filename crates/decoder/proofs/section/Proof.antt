@@ -1,0 +1,24 @@
+-- Assumes nothing.
+use Rattle.decoder.proofs.ArmLaws.{section-range}
+use borrow.Author.Needs.{needs}
+use Rattle.decoder.proofs.section.Statement.{statement}
+use Rattle.decoder.proofs.section.Tie as tie
+use Rattle.decoder.proofs.section.Reads as reads
+use Rattle.decoder.proofs.section.Lts as lts
+use Rattle.decoder.proofs.range.Reads as range-reads
+use Rattle.instance.proofs.wide.Reads as wide-reads
+
+-- src/lib.rt:146:26
+wide-requires : tie.Need-wide-requires
+wide-requires c κs = search needs
+
+-- src/lib.rt:146:9
+range-requires : tie.Need-range-requires
+range-requires c κs = search needs
+
+-- src/lib.rt:143:1
+returns : tie.Need-returns
+returns c = (search section-range, search needs, search needs)
+
+pub section-spec : {M : Type 1} → statement M
+section-spec = tie.close (tie.spec wide-requires range-requires returns)

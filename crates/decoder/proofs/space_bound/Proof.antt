@@ -1,0 +1,71 @@
+-- Assumes nothing.
+use Prim.Native.Nat.{_-_, _^_, _≤_, min}
+use mathlib.Core.Path.{_≡_}
+use Rattle.sums.specs.Sum.{sumTo}
+use Rattle.model.specs.Prefix.{powerUp}
+use Rattle.decoder.proofs.SizingLaws.{power-start, sum-start, cap-fits, cap-power, cap-sum, cap-ended}
+use borrow.Author.Needs.{needs}
+use Rattle.decoder.proofs.space_bound.Statement.{statement}
+use Rattle.decoder.proofs.space_bound.Tie as tie
+use Rattle.decoder.proofs.space_bound.Reads as reads
+use Rattle.decoder.proofs.space_bound.Lts as lts
+use Rattle.decoder.proofs.capped.Reads as capped-reads
+
+abbrev Inv-loop : tie.InvT-loop
+Inv-loop w u power₀ sum₀ j₀ power sum j =
+    (j ≤ u) × (power ≤ 268435455) × (sum ≤ 268435455) × (power ≡ min 268435455 (w ^ j)) × (sum ≡ min 268435455 (sumTo j (powerUp w)))
+
+abbrev μ-loop : tie.MeasureT-loop
+μ-loop w u power₀ sum₀ j₀ power sum j = u - j
+
+-- src/lib.rt:323:5
+loop-holds : tie.Need-loop-holds Inv-loop μ-loop
+loop-holds c = (search needs, search needs, search needs, search power-start, search sum-start)
+
+-- src/lib.rt:324:24
+mul-capped : tie.Need-mul-capped Inv-loop μ-loop
+mul-capped c = search cap-fits
+
+-- src/lib.rt:324:9
+capped-requires : tie.Need-capped-requires Inv-loop μ-loop
+capped-requires c κs = search needs
+
+-- src/lib.rt:325:22
+add-capped : tie.Need-add-capped Inv-loop μ-loop
+add-capped c = search needs
+
+-- src/lib.rt:325:9
+capped-requires-2 : tie.Need-capped-requires-2 Inv-loop μ-loop
+capped-requires-2 c κs = search needs
+
+-- src/lib.rt:323:9
+add-j : tie.Need-add-j Inv-loop μ-loop
+add-j c = search needs
+
+-- src/lib.rt:323:5
+loop-less : tie.Need-loop-less Inv-loop μ-loop
+loop-less c = search needs
+
+-- src/lib.rt:323:5
+loop-again : tie.Need-loop-again Inv-loop μ-loop
+loop-again c = (search needs, search needs, search needs, search cap-power, search cap-sum)
+
+-- src/lib.rt:317:1
+returns : tie.Need-returns Inv-loop μ-loop
+returns c = search cap-ended
+
+pub space-bound-spec : {M : Type 1} → statement M
+space-bound-spec =
+    tie.close
+    (tie.spec
+    Inv-loop
+    μ-loop
+    loop-holds
+    mul-capped
+    capped-requires
+    add-capped
+    capped-requires-2
+    add-j
+    loop-less
+    loop-again
+    returns)

@@ -1,0 +1,351 @@
+// Words read, or refused under one number with the place of the first fault.
+use model::Layout;
+ghost use mathlib.Core.Path.{_≡_};
+ghost use lib.ListN.{length};
+ghost use Rattle.sums.specs.Sum.{sumTo};
+ghost use Rattle.model.specs.Words.{kindOf, kindAt, valueAt, Laid, layoutOf};
+ghost use Rattle.model.specs.Bytes.{wordFrom, loadOf, loadedInto};
+ghost use Rattle.model.specs.Prefix.{powerUp};
+ghost use Rattle.model.specs.Sizing.{sizingOf};
+ghost use Prim.Native.Nat.{ℕ, _+_, _-_, _*_, _<_, _≤_, _^_, min};
+ghost use Rattle.model.specs.Reading.{dueAt, within, windowFault, pairFault, endFault, valueFault, faultFor, faultAt, readOf};
+ghost use Rattle.decoder.specs.Stages.{Onward, Clear, Passed};
+ghost use Rattle.decoder.specs.Answers.{verdictOf, replyOf};
+
+pub enum Verdict {
+    Accepted,
+    Refused(u32, usize),
+}
+
+// One number, or a refusal.
+pub enum Reply {
+    Number(usize),
+    Denied(u32, usize),
+}
+
+// What a word's kind and place settle: the refusal that its value deserves, 0 for none, and the place up to which words of the same kind
+// follow that may hold any value from 0 to `most`. There the next stage begins.
+pub struct Stage {
+    pub fault: u32,
+    pub most: u32,
+    pub next: usize,
+}
+
+// The kind due at place q; 10 stands for a pair or the end word. The pairs come first: they are the most among the words that are tested
+// one by one.
+pub fn due_at(l: Layout, q: usize) -> usize
+    requires { ⌜ Laid l ⌝ }
+    ensures { λ r. ⌜ r ≡ dueAt l q ⌝ }
+{
+    if l.pairs <= q {
+        return 10;
+    }
+    if q < 3 {
+        return q + 1;
+    }
+    if q < l.triples {
+        return 4;
+    }
+    if q < l.maints {
+        return 5 + (q - l.triples) % 3;
+    }
+    if q < l.runnings {
+        return 8;
+    }
+    9
+}
+
+// Refusal 2 outside lo to hi.
+pub fn range(lo: usize, hi: usize, v: usize) -> u32
+    ensures { λ r. ⌜ r ≡ within lo hi v ⌝ }
+{
+    if v < lo {
+        return 2;
+    }
+    if hi < v {
+        return 2;
+    }
+    0
+}
+
+// A window: 2 where an end lies outside the season, then 3 where the latest is before the earliest.
+pub fn window_fault(l: Layout, v: usize) -> u32
+    ensures { λ r. ⌜ r ≡ windowFault l v ⌝ }
+{
+    let earliest = v / 64;
+    let latest = v % 64;
+    if earliest < 1 {
+        return 2;
+    }
+    if l.weeks < earliest {
+        return 2;
+    }
+    if latest < 1 {
+        return 2;
+    }
+    if l.weeks < latest {
+        return 2;
+    }
+    if latest < earliest {
+        return 3;
+    }
+    0
+}
+
+// A pair after a word of value prev: 4, then 5 for a 121st.
+pub fn pair_fault(l: Layout, q: usize, prev: usize, v: usize) -> u32
+    ensures { λ r. ⌜ r ≡ pairFault l q prev v ⌝ }
+{
+    let a = v / 32;
+    let b = v % 32;
+    if a < 1 {
+        return 4;
+    }
+    if b <= a {
+        return 4;
+    }
+    if l.units < b {
+        return 4;
+    }
+    if q <= l.pairs {
+        return 0;
+    }
+    if v <= prev {
+        return 4;
+    }
+    if q - l.pairs < 120 {
+        return 0;
+    }
+    5
+}
+
+// The end word says how many words stand before it.
+pub fn end_fault(q: usize, v: usize) -> u32
+    ensures { λ r. ⌜ r ≡ endFault q v ⌝ }
+{
+    if v == q {
+        return 0;
+    }
+    6
+}
+
+// A stage of one word: the next begins after it.
+pub fn alone(fault: u32, q: usize) -> Stage
+    requires { ⌜ q + 1 < 2 ^ 64 ⌝ }
+    ensures { λ r. ⌜ (r .fault ≡ fault) × (r .most ≡ 0) × (r .next ≡ q + 1) ⌝ }
+{
+    Stage {
+        fault,
+        most: 0,
+        next: q + 1,
+    }
+}
+
+// A stage of words that may hold anything from 0 to most, up to the place next.
+pub fn section(most: u32, next: usize, v: usize) -> Stage
+    ensures { λ r. ⌜ (r .fault ≡ within 0 most v) × (r .most ≡ most) × (r .next ≡ next) ⌝ }
+{
+    let fault = range(0, instance::wide(most), v);
+    Stage { fault, most, next }
+}
+
+// A match over the kinds and ranges of kinds selects the test of the value and the next stage.
+pub fn stage_of(l: Layout, q: usize, prev: usize, k: usize, v: usize) -> Stage
+    requires { ⌜ q + 1 < 2 ^ 64 ⌝ }
+    ensures test { λ r. ⌜ r .fault ≡ valueFault l q prev k v ⌝ }
+    ensures onward { λ r. ⌜ Onward l q k (r .most) (r .next) ⌝ }
+{
+    match k {
+        1 => alone(range(1, 52, v), q),
+        2..=3 => alone(range(1, 16, v), q),
+        4 => section(16000000, l.triples, v),
+        5 => alone(range(0, 1000000, v), q),
+        6 => alone(window_fault(l, v), q),
+        7 => alone(range(1, l.weeks, v), q),
+        8 => section(250000, l.runnings, v),
+        9 => section(250000, l.pairs, v),
+        10 => alone(pair_fault(l, q, prev, v), q),
+        15 => alone(end_fault(q, v), q),
+        _ => alone(1, q),
+    }
+}
+
+// The kind first, refusal 1 where another is due; then the value.
+pub fn stage_for(l: Layout, q: usize, prev: usize, k: usize, v: usize) -> Stage
+    requires { ⌜ Laid l ⌝ }
+    requires { ⌜ q + 1 < 2 ^ 64 ⌝ }
+    ensures test { λ r. ⌜ r .fault ≡ faultFor l q prev k v ⌝ }
+    ensures onward { λ r. ⌜ Onward l q k (r .most) (r .next) ⌝ }
+{
+    let due = due_at(l, q);
+    if k == due {
+        return stage_of(l, q, prev, k, v);
+    }
+    if due != 10 {
+        return alone(1, q);
+    }
+    if k != 15 {
+        return alone(1, q);
+    }
+    stage_of(l, q, prev, k, v)
+}
+
+// The value of the word before place q; before the first there is none, and no test asks for it.
+pub fn value_before(words: &[u32], q: usize) -> usize
+    ensures { λ r. ⌜ r ≡ valueAt (now (words .entry)) (q - 1) ⌝ }
+{
+    if q == 0 {
+        return instance::value_at(words, 0);
+    }
+    instance::value_at(words, q - 1)
+}
+
+// The stage of the word at place q.
+pub fn stage_at(words: &[u32], l: Layout, q: usize) -> Stage
+    requires { ⌜ (l ≡ layoutOf (now words)) × (q < length (now words)) ⌝ }
+    ensures test { λ r. ⌜ r .fault ≡ faultAt (now (words .entry)) q ⌝ }
+    ensures onward { λ r. ⌜ Onward l q (kindAt (now (words .entry)) q) (r .most) (r .next) ⌝ }
+{
+    let prev = value_before(words, q);
+    let word = words[q];
+    let k = instance::kind_of(word);
+    let v = instance::value_of(word);
+    stage_for(l, q, prev, k, v)
+}
+
+// The smaller of two places.
+pub fn least(a: usize, b: usize) -> usize
+    ensures { λ r. ⌜ (r ≤ a) × (r ≤ b) ⌝ }
+{
+    if a < b {
+        return a;
+    }
+    b
+}
+
+// The word of value 0 and the same kind.
+pub fn kind_floor(word: u32) -> u32
+    ensures { λ r. ⌜ (r ≡ kindOf word * 268435456) × (r ≤ 4026531840) ⌝ }
+{
+    word / 268435456 * 268435456
+}
+
+// Passes the word at place q and all that follow in its stage and range. A word's distance from the kind's word of value 0, modulo 2^32,
+// settles kind and range in one comparison.
+pub fn pass(words: &[u32], q: usize, s: Stage) -> usize
+    requires { ⌜ Clear (now words) q (s .most) (s .next) ⌝ }
+    requires { ⌜ (q < length (now words)) × (s .most < 268435456) ⌝ }
+    ensures { λ r. ⌜ Passed (now (words .entry)) q r ⌝ }
+{
+    let most = s.most;
+    let low = kind_floor(words[q]);
+    let end = least(s.next, words.len());
+    let mut p = q + 1;
+    while p < end {
+        let distance = std::num::wrapping_sub_u32(words[p], low);
+        if most < distance {
+            return p;
+        }
+        p += 1;
+    }
+    p
+}
+
+// The verdict on any words as a plan file, in one pass.
+pub fn read(words: &[u32]) -> Verdict
+    ensures { λ r. ⌜ verdictOf r ≡ readOf (now (words .entry)) ⌝ }
+{
+    let l = instance::layout_of(words);
+    let mut q = 0;
+    while q < words.len() {
+        let s = stage_at(words, l, q);
+        let fault = s.fault;
+        if fault != 0 {
+            return Verdict::Refused(fault, q);
+        }
+        let k = instance::kind_of(words[q]);
+        if k == 15 {
+            if q + 1 == words.len() {
+                return Verdict::Accepted;
+            }
+            return Verdict::Refused(7, q + 1);
+        }
+        q = pass(words, q, s);
+    }
+    Verdict::Refused(1, q)
+}
+
+// A byte as a part of a word.
+pub fn part(byte: u8) -> u32
+    ensures { λ r. ⌜ (r ≡ byte) × (r < 256) ⌝ }
+{
+    byte as u32
+}
+
+// The word of the four bytes from place q on, lowest first.
+pub fn word_from(bytes: &[u8], q: usize) -> u32
+    requires { ⌜ q + 3 < length (now bytes) ⌝ }
+    ensures { λ r. ⌜ r ≡ wordFrom (now (bytes .entry)) q ⌝ }
+{
+    part(bytes[q])
+        + 256 * part(bytes[q + 1])
+        + 65536 * part(bytes[q + 2])
+        + 16777216 * part(bytes[q + 3])
+}
+
+// Writes the words of the bytes into the lent words and says how many, or refuses and changes nothing.
+pub fn load(bytes: &[u8], words: &mut [u32]) -> Reply
+    ensures answer { λ r. ⌜ replyOf r ≡ loadOf (now (bytes .entry)) (length (now (words .entry))) ⌝ }
+    ensures buffer { λ r. ⌜ now (words .exit) ≡ loadedInto (replyOf r) (now (bytes .entry)) (now (words .entry)) ⌝ }
+{
+    if bytes.len() % 4 != 0 {
+        return Reply::Denied(16, 0);
+    }
+    let n = bytes.len() / 4;
+    if words.len() < n {
+        return Reply::Denied(17, 0);
+    }
+    for k in 0..n {
+        words[k] = word_from(bytes, k * 4);
+    }
+    Reply::Number(n)
+}
+
+// The smaller of n and 268,435,455, the greatest figure.
+pub fn capped(n: usize) -> usize
+    ensures { λ r. ⌜ (r ≡ min 268435455 n) × (r ≤ 268435455) ⌝ }
+{
+    if 268435455 < n {
+        return 268435455;
+    }
+    n
+}
+
+// The smaller of 268,435,455 and w + w^2 + .. + w^u. What lies above is cut off at each step, and what is cut off stays so.
+pub fn space_bound(w: usize, u: usize) -> usize
+    requires { ⌜ w < 268435456 ⌝ }
+    ensures { λ r. ⌜ r ≡ min 268435455 (sumTo u (powerUp w)) ⌝ }
+{
+    let mut power = 1;
+    let mut sum = 0;
+    for j in 0..u {
+        power = capped(power * w);
+        sum = capped(sum + power);
+    }
+    sum
+}
+
+// The sizing figure of a file, or the file's refusal.
+pub fn sizing(words: &[u32]) -> Reply
+    ensures { λ r. ⌜ replyOf r ≡ sizingOf (now (words .entry)) ⌝ }
+{
+    let v = read(words);
+    match v {
+        Verdict::Refused(number, place) => Reply::Denied(number, place),
+        Verdict::Accepted => {
+            let w = instance::value_at(words, 0);
+            let u = instance::value_at(words, 1);
+            Reply::Number(space_bound(w, u))
+        }
+    }
+}

@@ -1,0 +1,61 @@
+-- An accepted file with its layout is all that the accessors ask for.
+-- Assumes nothing.
+use Prim.Native.Nat.{ℕ, _+_, _*_, _≤_, _<_}
+use mathlib.Core.Path.{_≡_, refl, subst⁻¹}
+use mathlib.Core.List.{List}
+use native.Mathlib.Nat.{mul-le-mul}
+use native.Mathlib.Omega.{arith}
+use lib.ListN.{length}
+use Rattle.model.specs.declared.Layout.{Layout}
+use Rattle.model.specs.Words.{layoutOf, problemOf}
+use Rattle.model.specs.Verdict.{accepted}
+use Rattle.model.specs.Reading.{readOf}
+use Rattle.model.specs.Ranges.{Ranged, Complete}
+use Rattle.model.proofs.ReadingLaws.{layout-laid}
+use Rattle.model.proofs.FileLaws.{complete, ranged, pair-word}
+use Rattle.instance.specs.Filed.{Filed}
+
+module _ (ws : List ℕ) (e : readOf ws ≡ accepted) where
+  abbrev l : Layout
+  l = layoutOf ws
+
+  weeks-at : problemOf ws .weeks ≡ l .weeks
+  unfolding problemOf
+  weeks-at = refl
+
+  units-at : problemOf ws .units ≡ l .units
+  unfolding problemOf
+  units-at = refl
+
+  filed-laid : Filed ws (layoutOf ws)
+  filed-laid =
+      let r = ranged ws e in
+      let c = complete ws e in
+      let a = layout-laid ws in
+      let w = weeks-at in
+      let u = units-at in
+      let wm : l .weeks ≤ 52 = omega (arith, r .weeks-most) in
+      let um : l .units ≤ 16 = omega (arith, r .units-most) in
+      record {
+        passed = e;
+        laid = refl;
+        weeks-some = omega (arith, r .weeks-some);
+        weeks-most = wm;
+        units-some = omega (arith, r .units-some);
+        units-most = um;
+        cells-most = mul-le-mul wm um;
+        triples-from = a .triples-at;
+        maints-from = a .maints-at;
+        runnings-from = a .runnings-at;
+        pairs-from = a .pairs-at;
+        long = omega (arith, c .exact);
+        short = omega (arith, c .exact, r .pairs-most);
+        pair-a-some = λ n h. pair-word ws e n h .from-one;
+        pair-b-some = λ n h. let p = pair-word ws e n h in omega (arith, p .from-one, p .order);
+        pair-a-most = λ n h. omega (arith, r .pair-order n h, r .pair-units n h);
+        pair-b-most = λ n h. omega (arith, r .pair-units n h);
+      }
+
+-- the file was accepted, and l was computed from it
+pub filed : (ws : List ℕ) (l : Layout) → readOf ws ≡ accepted → l ≡ layoutOf ws → Filed ws l
+filed ws l e laid = subst⁻¹ (Filed ws) laid (filed-laid ws e)

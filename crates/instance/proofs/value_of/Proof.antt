@@ -1,0 +1,16 @@
+-- `instance::value_of` meets its contract: the definition's own remainder.
+-- Assumes nothing.
+use borrow.Author.Needs.{needs}
+use Rattle.model.specs.Words.{valueOf}
+use Rattle.instance.proofs.value_of.Statement.{statement}
+use Rattle.instance.proofs.value_of.Tie as tie
+
+wide-requires : tie.Need-wide-requires
+wide-requires c κs = search needs
+
+returns : tie.Need-returns
+unfolding valueOf
+returns c = search needs
+
+pub value-of-spec : {M : Type 1} → statement M
+value-of-spec = tie.close (tie.spec wide-requires returns)

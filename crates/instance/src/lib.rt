@@ -1,0 +1,284 @@
+// A file's words seen as the problem they mean: where its sections begin, an accessor for each figure, and money and mass. Every accessor
+// is an equation with `problemOf`; weeks, units and pairs count from 0.
+use model::Layout;
+ghost use mathlib.Core.Path.{_≡_};
+ghost use mathlib.Core.Bool.{_||_};
+ghost use Prim.Native.Nat.{ℕ, _+_, _*_, _<_, _≤_, _^_};
+ghost use lib.ListN.{length};
+ghost use Rattle.sums.specs.NumSet.{has};
+ghost use Rattle.model.specs.Words.{kindOf, valueOf, valueAt, layoutFor, layoutOf, problemOf};
+ghost use Rattle.model.specs.Pairs.{joins, apart};
+ghost use Rattle.instance.specs.Filed.{Filed};
+ghost use Rattle.instance.specs.Tables.{maintsOf, runningsOf, tableFor, rowOf};
+
+// Euros. A sum over costs takes and returns them, and nothing else does.
+pub struct Euro(pub u64);
+
+// Kilograms of dry matter, for sums over demands and capacities.
+pub struct Kilo(pub u64);
+
+impl Euro {
+    pub fn plus(self, other: Euro) -> Euro
+        requires { ⌜ self .0 + other .0 < 2 ^ 64 ⌝ }
+        ensures { λ r. ⌜ r .0 ≡ self .0 + other .0 ⌝ }
+    {
+        Euro(self.0 + other.0)
+    }
+}
+
+impl Kilo {
+    pub fn plus(self, other: Kilo) -> Kilo
+        requires { ⌜ self .0 + other .0 < 2 ^ 64 ⌝ }
+        ensures { λ r. ⌜ r .0 ≡ self .0 + other .0 ⌝ }
+    {
+        Kilo(self.0 + other.0)
+    }
+}
+
+// A word as a number that places are counted in.
+pub fn wide(word: u32) -> usize
+    ensures { λ r. ⌜ r ≡ word ⌝ }
+{
+    word as usize
+}
+
+// The top 4 bits.
+pub fn kind_of(word: u32) -> usize
+    ensures { λ r. ⌜ (r ≡ kindOf word) × (r < 16) ⌝ }
+{
+    wide(word) / 268435456
+}
+
+// The low 28 bits.
+pub fn value_of(word: u32) -> usize
+    ensures { λ r. ⌜ (r ≡ valueOf word) × (r < 268435456) ⌝ }
+{
+    wide(word) % 268435456
+}
+
+// The value of the word at a place, 0 past the end.
+pub fn value_at(words: &[u32], q: usize) -> usize
+    ensures { λ r. ⌜ (r ≡ valueAt (now (words .entry)) q) × (r < 268435456) ⌝ }
+{
+    if q < words.len() {
+        return value_of(words[q]);
+    }
+    0
+}
+
+// The layout of w weeks and u units.
+pub fn layout_for(w: usize, u: usize) -> Layout
+    requires { ⌜ (w < 268435456) × (u < 268435456) ⌝ }
+    ensures { λ r. ⌜ r ≡ layoutFor w u ⌝ }
+{
+    let triples = 3 + w;
+    let maints = triples + 3 * u;
+    let cells = w * u;
+    let runnings = maints + cells;
+    let pairs = runnings + cells;
+    Layout {
+        weeks: w,
+        units: u,
+        triples,
+        maints,
+        runnings,
+        pairs,
+    }
+}
+
+// The layout that the first two words announce, of any words.
+pub fn layout_of(words: &[u32]) -> Layout
+    ensures { λ r. ⌜ r ≡ layoutOf (now (words .entry)) ⌝ }
+{
+    layout_for(value_at(words, 0), value_at(words, 1))
+}
+
+// M: how many overhauls may go on in one week.
+pub fn crews(words: &[u32]) -> usize
+    ensures { λ r. ⌜ (r ≡ problemOf (now (words .entry)) .crews) × (r < 268435456) ⌝ }
+{
+    value_at(words, 2)
+}
+
+// D: what week t wants.
+pub fn demand(words: &[u32], l: Layout, t: usize) -> Kilo
+    requires { ⌜ Filed (now words) l ⌝ }
+    requires { ⌜ t < l .weeks ⌝ }
+    ensures { λ r. ⌜ (r .0 ≡ problemOf (now (words .entry)) .demand t) × (r .0 < 268435456) ⌝ }
+{
+    Kilo(value_of(words[3 + t]) as u64)
+}
+
+// k: what unit i gives in week t.
+pub fn capacity(words: &[u32], l: Layout, t: usize, i: usize) -> Kilo
+    requires { ⌜ Filed (now words) l ⌝ }
+    requires { ⌜ i < l .units ⌝ }
+    ensures { λ r. ⌜ (r .0 ≡ problemOf (now (words .entry)) .capacity t i) × (r .0 < 268435456) ⌝ }
+{
+    let q = l.triples + 3 * i;
+    Kilo(value_of(words[q]) as u64)
+}
+
+// e: the earliest start of unit i, from 1.
+pub fn earliest(words: &[u32], l: Layout, i: usize) -> usize
+    requires { ⌜ Filed (now words) l ⌝ }
+    requires { ⌜ i < l .units ⌝ }
+    ensures { λ r. ⌜ r ≡ problemOf (now (words .entry)) .earliest i ⌝ }
+{
+    let q = l.triples + 3 * i + 1;
+    value_of(words[q]) / 64
+}
+
+// l: its latest start.
+pub fn latest(words: &[u32], l: Layout, i: usize) -> usize
+    requires { ⌜ Filed (now words) l ⌝ }
+    requires { ⌜ i < l .units ⌝ }
+    ensures { λ r. ⌜ r ≡ problemOf (now (words .entry)) .latest i ⌝ }
+{
+    let q = l.triples + 3 * i + 1;
+    value_of(words[q]) % 64
+}
+
+// d: the weeks that its overhaul takes.
+pub fn duration(words: &[u32], l: Layout, i: usize) -> usize
+    requires { ⌜ Filed (now words) l ⌝ }
+    requires { ⌜ i < l .units ⌝ }
+    ensures { λ r. ⌜ r ≡ problemOf (now (words .entry)) .duration i ⌝ }
+{
+    let q = l.triples + 3 * i + 2;
+    value_of(words[q])
+}
+
+// The place of week t and unit i in a table of costs.
+pub fn cell_place(l: Layout, t: usize, i: usize) -> usize
+    requires { ⌜ l .weeks * l .units ≤ 832 ⌝ }
+    requires { ⌜ (t < l .weeks) × (i < l .units) ⌝ }
+    ensures { λ r. ⌜ (r ≡ t * l .units + i) × (r < l .weeks * l .units) ⌝ }
+{
+    t * l.units + i
+}
+
+// m: what maintaining unit i costs in week t.
+pub fn maint_cost(words: &[u32], l: Layout, t: usize, i: usize) -> Euro
+    requires { ⌜ Filed (now words) l ⌝ }
+    requires { ⌜ (t < l .weeks) × (i < l .units) ⌝ }
+    ensures { λ r. ⌜ (r .0 ≡ problemOf (now (words .entry)) .maint t i) × (r .0 < 268435456) ⌝ }
+{
+    let q = l.maints + cell_place(l, t, i);
+    Euro(value_of(words[q]) as u64)
+}
+
+// c: what running unit i costs in week t.
+pub fn running_cost(words: &[u32], l: Layout, t: usize, i: usize) -> Euro
+    requires { ⌜ Filed (now words) l ⌝ }
+    requires { ⌜ (t < l .weeks) × (i < l .units) ⌝ }
+    ensures { λ r. ⌜ (r .0 ≡ problemOf (now (words .entry)) .running t i) × (r .0 < 268435456) ⌝ }
+{
+    let q = l.runnings + cell_place(l, t, i);
+    Euro(value_of(words[q]) as u64)
+}
+
+// The table of maintenance costs.
+pub fn maint_table(words: &[u32], l: Layout) -> &[u32]
+    requires { ⌜ Filed (now words) l ⌝ }
+    ensures { λ r. ⌜ now r ≡ maintsOf l (now (words .entry)) ⌝ }
+{
+    let from = l.maints;
+    let to = l.runnings;
+    &words[from..to]
+}
+
+// The table of running costs.
+pub fn running_table(words: &[u32], l: Layout) -> &[u32]
+    requires { ⌜ Filed (now words) l ⌝ }
+    ensures { λ r. ⌜ now r ≡ runningsOf l (now (words .entry)) ⌝ }
+{
+    let from = l.runnings;
+    let to = l.pairs;
+    &words[from..to]
+}
+
+// The week's row of the table that a cell's state names, with a number for each of u units.
+pub fn cost_row<'a>(
+    maints: &'a [u32],
+    runnings: &'a [u32],
+    u: usize,
+    t: usize,
+    state: u8,
+) -> &'a [u32]
+    requires { ⌜ (t < 52) × (u ≤ 16) ⌝ }
+    requires { ⌜ (t * u + u ≤ length (now maints)) × (t * u + u ≤ length (now runnings)) ⌝ }
+    ensures { λ r. ⌜ now r ≡ rowOf u t (tableFor state (now (maints .entry)) (now (runnings .entry))) ⌝ }
+{
+    let from = t * u;
+    if state == 2 {
+        return &maints[from..from + u];
+    }
+    &runnings[from..from + u]
+}
+
+// N: how many excluded pairs there are.
+pub fn pairs(words: &[u32], l: Layout) -> usize
+    requires { ⌜ Filed (now words) l ⌝ }
+    ensures { λ r. ⌜ (r ≡ problemOf (now (words .entry)) .pairs) × (l .pairs + r < length (now (words .entry))) ⌝ }
+{
+    words.len() - (l.pairs + 1)
+}
+
+// The value of pair n's word: its lower unit times 32 and its higher unit, both from 1.
+fn pair_value(words: &[u32], l: Layout, n: usize) -> usize
+    requires { ⌜ Filed (now words) l ⌝ }
+    requires { ⌜ n < problemOf (now words) .pairs ⌝ }
+    ensures { λ r. ⌜ r ≡ valueAt (now (words .entry)) (l .pairs + n) ⌝ }
+{
+    let q = l.pairs + n;
+    value_of(words[q])
+}
+
+// The lower unit of pair n.
+pub fn pair_a(words: &[u32], l: Layout, n: usize) -> usize
+    requires { ⌜ Filed (now words) l ⌝ }
+    requires { ⌜ n < problemOf (now words) .pairs ⌝ }
+    ensures { λ r. ⌜ r ≡ problemOf (now (words .entry)) .pairA n ⌝ }
+{
+    pair_value(words, l, n) / 32 - 1
+}
+
+// The higher unit of pair n.
+pub fn pair_b(words: &[u32], l: Layout, n: usize) -> usize
+    requires { ⌜ Filed (now words) l ⌝ }
+    requires { ⌜ n < problemOf (now words) .pairs ⌝ }
+    ensures { λ r. ⌜ r ≡ problemOf (now (words .entry)) .pairB n ⌝ }
+{
+    pair_value(words, l, n) % 32 - 1
+}
+
+// What pair n adds to the partners of unit i found so far.
+pub fn partner_added(words: &[u32], l: Layout, i: usize, n: usize, found: u32) -> u32
+    requires { ⌜ Filed (now words) l ⌝ }
+    requires { ⌜ n < problemOf (now words) .pairs ⌝ }
+    ensures { λ r. ⌜ ((j : ℕ) → has r j ≡ (has found j || joins (problemOf (now (words .entry))) i j n)) ⌝ }
+{
+    let a = pair_a(words, l, n);
+    let b = pair_b(words, l, n);
+    if a == i {
+        return sets::with(found, b);
+    }
+    if b == i {
+        return sets::with(found, a);
+    }
+    found
+}
+
+// The units that form an excluded pair with unit i, as a set.
+pub fn partners(words: &[u32], l: Layout, i: usize) -> u32
+    requires { ⌜ Filed (now words) l ⌝ }
+    ensures { λ r. ⌜ ((j : ℕ) → has r j ≡ apart (problemOf (now (words .entry))) i j) ⌝ }
+{
+    let count = pairs(words, l);
+    let mut found = 0;
+    for n in 0..count {
+        found = partner_added(words, l, i, n, found);
+    }
+    found
+}

@@ -1,0 +1,2 @@
+-- what the operations on a word do to the set it stands for
+pub mod BitLaws

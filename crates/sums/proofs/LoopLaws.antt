@@ -1,0 +1,65 @@
+-- Laws of loops, a turn at a time: what holds before the first turn, after one more and at the end, with every premise as a loop's
+-- invariant and test have it, so that `search` finds it.
+-- Assumes nothing.
+use Prim.Native.Nat.{ℕ, suc, _+_, _≤_, _<_}
+use mathlib.Core.Path.{_≡_, refl, _∙_, ap}
+use mathlib.Core.Bool.{Bool, _||_}
+use mathlib.Core.List.{List, [], _∷_, _++_, append-assoc}
+use native.Mathlib.Numerals.{add-one}
+use native.Mathlib.Omega.{arith}
+use lib.ListN.{length, getD, set, drop}
+use lib.Seq.{drop-cons, set-at}
+use Rattle.sums.specs.Range.{someTo, listTo}
+use Rattle.sums.specs.NumSet.{has}
+use Rattle.sums.proofs.RangeLaws.{list-length}
+use Rattle.sums.proofs.NumSetLaws.{zero-has}
+
+-- ---- a test of some number
+
+-- one more number
+pub some-next : (p : ℕ → Bool) (n : ℕ) (a r : Bool) → a ≡ someTo n p → r ≡ (a || p n) → r ≡ someTo (n + 1) p
+unfolding someTo
+some-next p n a r h e = rw (add-one, ← h) e
+
+-- all numbers below the bound
+pub some-ended : (p : ℕ → Bool) (n m : ℕ) (r : Bool) → n ≤ m → m ≤ n → r ≡ someTo n p → r ≡ someTo m p
+some-ended p n m r h g e = let q : n ≡ m = omega arith in e ∙ ap (λ (k : ℕ). someTo k p) q
+
+-- ---- a set gathered number by number
+
+-- the set has each j for which some number below n has q j
+pub record Gathered (q : ℕ → ℕ → Bool) (n set : ℕ) : Type 0 where
+  pub members : (j : ℕ) → has set j ≡ someTo n (q j)
+
+-- nothing yet
+pub gathered-start : (q : ℕ → ℕ → Bool) → Gathered q 0 0
+unfolding someTo
+gathered-start q = record { members = zero-has }
+
+-- one more number
+pub gathered-next : (q : ℕ → ℕ → Bool) (n a r : ℕ) → Gathered q n a → ((j : ℕ) → has r j ≡ (has a j || q j n)) → Gathered q (n + 1) r
+gathered-next q n a r g e = record { members = λ j. some-next (q j) n (has a j) (has r j) (g .members j) (e j) }
+
+-- all numbers below the bound
+pub gathered-ended : (q : ℕ → ℕ → Bool) (n m a : ℕ) → Gathered q n a → n ≤ m → m ≤ n → (j : ℕ) → has a j ≡ someTo m (q j)
+gathered-ended q n m a g h l j = some-ended (q j) n m (has a j) h l (g .members j)
+
+-- ---- a list written into lent memory d from the front; what it held beyond is kept
+
+-- nothing yet
+pub list-start : (f : ℕ → ℕ) (d : List ℕ) → d ≡ listTo 0 f ++ drop 0 d
+unfolding listTo
+list-start f [] = refl
+list-start f (x ∷ d) = refl
+
+-- one more entry
+pub list-next : (f : ℕ → ℕ) (d l : List ℕ) (n k v : ℕ) → l ≡ listTo k f ++ drop k d → k < n → n ≤ length d → v ≡ f k
+    → set l k v ≡ listTo (k + 1) f ++ drop (k + 1) d
+unfolding listTo
+list-next f d l n k v e h m is =
+    let b : k < length d = omega arith in
+    rw (e, drop-cons d k 0 b, set-at (listTo k f) (getD d k 0) (drop (suc k) d) v k (list-length k f), add-one, append-assoc, is)
+
+-- all entries
+pub list-ended : (f : ℕ → ℕ) (d l : List ℕ) (k n : ℕ) → l ≡ listTo k f ++ drop k d → k ≤ n → n ≤ k → l ≡ listTo n f ++ drop n d
+list-ended f d l k n e h m = let o : k ≡ n = omega arith in rw o at e

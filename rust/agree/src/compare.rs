@@ -1,0 +1,80 @@
+//! The comparison: the proved reader's verdict held against the reference's, number and place.
+
+use reference::{kind_of, read, value_of, Refusal};
+use std::fmt::Arguments;
+
+/// What a reader says of a file: accepted, or the refusal.
+pub type Verdict = Result<(), Refusal>;
+
+/// The proved reader's verdict, in the reference's words.
+pub fn proved_verdict(words: &[u32]) -> Verdict {
+    ffi::read(words).map_err(|refusal| Refusal {
+        number: refusal.number,
+        place: refusal.place,
+    })
+}
+
+/// The verdicts on which both readers agreed, counted by refusal number. A test that asserts on
+/// the counts cannot pass by comparing nothing.
+#[derive(Default)]
+pub struct Counts {
+    accepted: usize,
+    refused: [usize; 8],
+}
+
+impl Counts {
+    /// The verdict that both readers give; panics, with the origin and the file, where they differ.
+    pub fn agreed(&mut self, words: &[u32], origin: Arguments) -> Verdict {
+        let expected = read(words).map(|_| ());
+        let proved = proved_verdict(words);
+        assert_eq!(
+            proved,
+            expected,
+            "proved, then reference, on {origin}: {}",
+            shown(words)
+        );
+        match expected {
+            Ok(()) => {
+                let place = ffi::read_place(words);
+                assert_eq!(place, 0, "accepted has place 0, on {origin}");
+                self.accepted += 1;
+            }
+            Err(refusal) => self.refused[refusal.number as usize] += 1,
+        }
+        expected
+    }
+
+    /// How many files were accepted.
+    pub fn accepted(&self) -> usize {
+        self.accepted
+    }
+
+    /// How many files were compared.
+    pub fn total(&self) -> usize {
+        self.accepted + self.refused.iter().sum::<usize>()
+    }
+
+    /// The refusal numbers that arose, rising.
+    pub fn numbers(&self) -> Vec<usize> {
+        (0..8).filter(|&number| self.refused[number] > 0).collect()
+    }
+
+    /// Prints the counts, for those who run the tests with their output shown.
+    pub fn report(&self, what: &str) {
+        println!(
+            "{what}: {} files, {} accepted, refusals 1 to 7: {:?}",
+            self.total(),
+            self.accepted,
+            &self.refused[1..]
+        );
+    }
+}
+
+/// The words as document 01 prints them.
+fn shown(words: &[u32]) -> String {
+    let pairs: Vec<String> = words
+        .iter()
+        .map(|&word| format!("{}:{}", kind_of(word), value_of(word)))
+        .collect();
+    pairs.join(" ")
+}

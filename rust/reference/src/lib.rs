@@ -1,0 +1,24 @@
+//! Document 01 in plain Rust: slow, short, and written from its text. Where a sentence can be read
+//! in two ways it takes the project's reading, so agreement says nothing about that choice.
+//!
+//! Nothing here is taken from the proved code or links it, so that a mistake in one is not
+//! repeated in the other. Start at [`read`].
+
+mod plan;
+mod reader;
+mod sizing;
+mod words;
+
+pub use plan::{encode, example_a, example_a_words, Plan};
+pub use reader::read;
+pub use sizing::sizing;
+pub use words::{bytes_of, kind_of, load, value_of, word};
+
+/// Why a call was turned away: the listed number and the word's place, from 0 in its own list.
+#[derive(Clone, Copy, Debug, PartialEq, Eq)]
+pub struct Refusal {
+    /// The number in the list of document 01.
+    pub number: u32,
+    /// The place of the word at fault; 0 for the causes that have none.
+    pub place: usize,
+}
