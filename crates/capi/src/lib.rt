@@ -9,7 +9,7 @@ ghost use Rattle.decoder.specs.Answers.{verdictOf, replyOf};
 ghost use Rattle.capi.specs.Codes.{refusedBy, refusedAt, deniedBy, given};
 
 // The number of a verdict's refusal.
-pub fn refusal_number(v: decoder::Verdict) -> u32
+fn refusal_number(v: decoder::Verdict) -> u32
     ensures { λ r. ⌜ r ≡ refusedBy (verdictOf v) ⌝ }
 {
     match v {
@@ -19,7 +19,7 @@ pub fn refusal_number(v: decoder::Verdict) -> u32
 }
 
 // The place of a verdict's refusal.
-pub fn refusal_place(v: decoder::Verdict) -> usize
+fn refusal_place(v: decoder::Verdict) -> usize
     ensures { λ r. ⌜ r ≡ refusedAt (verdictOf v) ⌝ }
 {
     match v {
@@ -29,7 +29,7 @@ pub fn refusal_place(v: decoder::Verdict) -> usize
 }
 
 // The number of a reply's refusal.
-pub fn denial_number(reply: decoder::Reply) -> u32
+fn denial_number(reply: decoder::Reply) -> u32
     ensures { λ r. ⌜ r ≡ deniedBy (replyOf reply) ⌝ }
 {
     match reply {
@@ -39,7 +39,7 @@ pub fn denial_number(reply: decoder::Reply) -> u32
 }
 
 // The number that a reply gives, 0 where it is a refusal.
-pub fn number_given(reply: decoder::Reply) -> usize
+fn number_given(reply: decoder::Reply) -> usize
     ensures { λ r. ⌜ r ≡ given (replyOf reply) ⌝ }
 {
     match reply {

@@ -7,7 +7,7 @@ use lib.ListN.{length, getD, set, drop}
 use borrow.Author.Tests.{eq-eqb, ne-eqb, le-leb, lt-leb}
 use Rattle.sums.proofs.LoopLaws.{list-start, list-next, list-ended}
 use Rattle.model.specs.Verdict.{gives, denies}
-use Rattle.model.specs.Bytes.{wordFrom, wordAt, wordsTo, bytesVerdict, loadOf, loadedInto}
+use Rattle.model.specs.Bytes.{wordFrom, wordAt, wordsTo, loadOf, loadedInto}
 
 -- ---- one word
 

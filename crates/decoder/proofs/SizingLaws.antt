@@ -1,7 +1,7 @@
 -- The sizing figure step by step: what is cut off at the greatest figure stays cut off.
 -- Assumes nothing.
 use Prim.Native.Nat.{ℕ, zero, suc, _+_, _*_, _^_, _≤_, _<_, min}
-use mathlib.Core.Path.{_≡_, refl, sym, _∙_, ap}
+use mathlib.Core.Path.{_≡_, refl}
 use mathlib.Core.List.{List}
 use native.Mathlib.Decide.{decLt}
 use native.Mathlib.Nat.{pow-zero, pow-suc, mul-le-mul, mul-one, mul-zero, le-refl, le-of-lt}

@@ -1,19 +1,18 @@
 -- The reader's steps, every premise as the loops have it: past a word of the same stage, to a refusal, or to the end word.
 -- Assumes nothing.
-use Prim.Native.Nat.{ℕ, suc, _+_, _-_, _*_, _%_, _^_, _≤_, _<_}
+use Prim.Native.Nat.{ℕ, suc, _+_, _-_, _*_, _%_, _^_, _≤_, _<_, min}
 use mathlib.Core.Path.{_≡_, refl, sym, _∙_, ap}
-use mathlib.Core.Bool.{Bool, true, false, _&&_, _||_}
 use mathlib.Core.List.{List}
 use mathlib.Core.Logic.{⊎-elim}
 use native.Mathlib.Omega.{arith}
 use lib.Dec.{eqb}
 use lib.ListN.{length, getD}
-use borrow.Author.Tests.{eq-eqb, ne-eqb, eqb-true}
+use borrow.Author.Tests.{eq-eqb, ne-eqb}
 use Rattle.sums.specs.Logic.{if}
 use Rattle.model.specs.declared.Layout.{Layout}
-use Rattle.model.specs.Words.{_∶_, kindOf, valueOf, kindAt, valueAt, Laid, layoutOf}
+use Rattle.model.specs.Words.{kindOf, valueOf, kindAt, valueAt, Laid, layoutOf}
 use Rattle.model.specs.Verdict.{accepted, refused}
-use Rattle.model.specs.Reading.{dueAt, fitsDue, valueFault, faultFor, faultAt, readFrom, readOf}
+use Rattle.model.specs.Reading.{dueAt, faultFor, faultAt, readFrom, readOf}
 use Rattle.model.proofs.ReadingLaws.{layout-laid, kind-fits}
 use Rattle.decoder.specs.Stages.{Onward, Passes, Clear, Passed}
 
@@ -43,7 +42,10 @@ onward-here ws l q k most next e on = rw (← e) on
 -- a word without a fault that is not the end word has the kind due
 kind-due : (ws : List ℕ) (q : ℕ) → faultAt ws q ≡ 0 → (kindAt ws q ≡ 15 → ⊥) → dueAt (layoutOf ws) q ≡ kindAt ws q
 kind-due ws q clear inner =
-    ⊎-elim (λ (e : kindAt ws q ≡ dueAt (layoutOf ws) q). sym e) (λ (e : (dueAt (layoutOf ws) q ≡ 10) × (kindAt ws q ≡ 15)). absurd (inner (e .1))) (kind-fits ws q clear)
+    ⊎-elim
+    (λ (e : kindAt ws q ≡ dueAt (layoutOf ws) q). sym e)
+    (λ (e : (dueAt (layoutOf ws) q ≡ 10) × (kindAt ws q ≡ 15)). absurd (inner (e .1)))
+    (kind-fits ws q clear)
 
 -- what the stage of the word at place q says of the words after it
 pub stage-clear : (ws : List ℕ) (l : Layout) (q k most next f : ℕ) → l ≡ layoutOf ws → k ≡ kindOf (getD ws q 0) → f ≡ faultAt ws q → f ≡ 0
@@ -104,11 +106,11 @@ module _ (ws : List ℕ) (q : ℕ) where
 
   module _ (p : ℕ) (same : readFrom ws (q + 1) (length ws - (q + 1)) ≡ readFrom ws p (length ws - p)) where
     -- one word more
-    pub pass-next : (most next end low d : ℕ) → Clear ws q most next → q < p → p < end → end ≤ next → end ≤ length ws → most < 268435456
+    pub pass-next : (most next end low d : ℕ) → Clear ws q most next → q < p → p < end → end ≡ min next (length ws) → most < 268435456
         → low ≡ kindOf (getD ws q 0) * 268435456 → low ≤ 4026531840 → (d + low) % 2 ^ 32 ≡ getD ws p 0 → d ≤ most
         → readFrom ws (q + 1) (length ws - (q + 1)) ≡ readFrom ws (p + 1) (length ws - (p + 1))
     unfolding kindAt valueAt
-    pass-next most next end low d clear a b c h s at top is near =
+    pass-next most next end low d clear a b c s at top is near =
         let kind : kindAt ws p ≡ kindAt ws q = near-kind (kindAt ws q) (getD ws p 0) most low d s at top is near in
         let value : valueAt ws p ≤ most = near-value (kindAt ws q) (getD ws p 0) most low d s at top is near in
         same ∙ step-next ws p (omega arith) (clear .free p a (omega arith) kind value)

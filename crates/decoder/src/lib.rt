@@ -1,17 +1,18 @@
 // Words read, or refused under one number with the place of the first fault.
 use model::Layout;
+ghost use Prim.Native.Nat.{_+_, _-_, _*_, _<_, _≤_, _^_, min};
 ghost use mathlib.Core.Path.{_≡_};
 ghost use lib.ListN.{length};
 ghost use Rattle.sums.specs.Sum.{sumTo};
 ghost use Rattle.model.specs.Words.{kindOf, kindAt, valueAt, Laid, layoutOf};
 ghost use Rattle.model.specs.Bytes.{wordFrom, loadOf, loadedInto};
+ghost use Rattle.model.specs.Reading.{dueAt, within, windowFault, pairFault, endFault, valueFault, faultFor, faultAt, readOf};
 ghost use Rattle.model.specs.Prefix.{powerUp};
 ghost use Rattle.model.specs.Sizing.{sizingOf};
-ghost use Prim.Native.Nat.{ℕ, _+_, _-_, _*_, _<_, _≤_, _^_, min};
-ghost use Rattle.model.specs.Reading.{dueAt, within, windowFault, pairFault, endFault, valueFault, faultFor, faultAt, readOf};
 ghost use Rattle.decoder.specs.Stages.{Onward, Clear, Passed};
 ghost use Rattle.decoder.specs.Answers.{verdictOf, replyOf};
 
+// A plan file is accepted, or refused under a number at a place.
 pub enum Verdict {
     Accepted,
     Refused(u32, usize),
@@ -23,17 +24,19 @@ pub enum Reply {
     Denied(u32, usize),
 }
 
+// ---- the reader of a plan file
+
 // What a word's kind and place settle: the refusal that its value deserves, 0 for none, and the place up to which words of the same kind
 // follow that may hold any value from 0 to `most`. There the next stage begins.
-pub struct Stage {
-    pub fault: u32,
-    pub most: u32,
-    pub next: usize,
+struct Stage {
+    fault: u32,
+    most: u32,
+    next: usize,
 }
 
 // The kind due at place q; 10 stands for a pair or the end word. The pairs come first: they are the most among the words that are tested
 // one by one.
-pub fn due_at(l: Layout, q: usize) -> usize
+fn due_at(l: Layout, q: usize) -> usize
     requires { ⌜ Laid l ⌝ }
     ensures { λ r. ⌜ r ≡ dueAt l q ⌝ }
 {
@@ -56,7 +59,7 @@ pub fn due_at(l: Layout, q: usize) -> usize
 }
 
 // Refusal 2 outside lo to hi.
-pub fn range(lo: usize, hi: usize, v: usize) -> u32
+fn range(lo: usize, hi: usize, v: usize) -> u32
     ensures { λ r. ⌜ r ≡ within lo hi v ⌝ }
 {
     if v < lo {
@@ -69,7 +72,7 @@ pub fn range(lo: usize, hi: usize, v: usize) -> u32
 }
 
 // A window: 2 where an end lies outside the season, then 3 where the latest is before the earliest.
-pub fn window_fault(l: Layout, v: usize) -> u32
+fn window_fault(l: Layout, v: usize) -> u32
     ensures { λ r. ⌜ r ≡ windowFault l v ⌝ }
 {
     let earliest = v / 64;
@@ -93,7 +96,7 @@ pub fn window_fault(l: Layout, v: usize) -> u32
 }
 
 // A pair after a word of value prev: 4, then 5 for a 121st.
-pub fn pair_fault(l: Layout, q: usize, prev: usize, v: usize) -> u32
+fn pair_fault(l: Layout, q: usize, prev: usize, v: usize) -> u32
     ensures { λ r. ⌜ r ≡ pairFault l q prev v ⌝ }
 {
     let a = v / 32;
@@ -120,7 +123,7 @@ pub fn pair_fault(l: Layout, q: usize, prev: usize, v: usize) -> u32
 }
 
 // The end word says how many words stand before it.
-pub fn end_fault(q: usize, v: usize) -> u32
+fn end_fault(q: usize, v: usize) -> u32
     ensures { λ r. ⌜ r ≡ endFault q v ⌝ }
 {
     if v == q {
@@ -130,7 +133,7 @@ pub fn end_fault(q: usize, v: usize) -> u32
 }
 
 // A stage of one word: the next begins after it.
-pub fn alone(fault: u32, q: usize) -> Stage
+fn alone(fault: u32, q: usize) -> Stage
     requires { ⌜ q + 1 < 2 ^ 64 ⌝ }
     ensures { λ r. ⌜ (r .fault ≡ fault) × (r .most ≡ 0) × (r .next ≡ q + 1) ⌝ }
 {
@@ -142,7 +145,7 @@ pub fn alone(fault: u32, q: usize) -> Stage
 }
 
 // A stage of words that may hold anything from 0 to most, up to the place next.
-pub fn section(most: u32, next: usize, v: usize) -> Stage
+fn section(most: u32, next: usize, v: usize) -> Stage
     ensures { λ r. ⌜ (r .fault ≡ within 0 most v) × (r .most ≡ most) × (r .next ≡ next) ⌝ }
 {
     let fault = range(0, instance::wide(most), v);
@@ -150,7 +153,7 @@ pub fn section(most: u32, next: usize, v: usize) -> Stage
 }
 
 // A match over the kinds and ranges of kinds selects the test of the value and the next stage.
-pub fn stage_of(l: Layout, q: usize, prev: usize, k: usize, v: usize) -> Stage
+fn stage_of(l: Layout, q: usize, prev: usize, k: usize, v: usize) -> Stage
     requires { ⌜ q + 1 < 2 ^ 64 ⌝ }
     ensures test { λ r. ⌜ r .fault ≡ valueFault l q prev k v ⌝ }
     ensures onward { λ r. ⌜ Onward l q k (r .most) (r .next) ⌝ }
@@ -171,7 +174,7 @@ pub fn stage_of(l: Layout, q: usize, prev: usize, k: usize, v: usize) -> Stage
 }
 
 // The kind first, refusal 1 where another is due; then the value.
-pub fn stage_for(l: Layout, q: usize, prev: usize, k: usize, v: usize) -> Stage
+fn stage_for(l: Layout, q: usize, prev: usize, k: usize, v: usize) -> Stage
     requires { ⌜ Laid l ⌝ }
     requires { ⌜ q + 1 < 2 ^ 64 ⌝ }
     ensures test { λ r. ⌜ r .fault ≡ faultFor l q prev k v ⌝ }
@@ -191,7 +194,7 @@ pub fn stage_for(l: Layout, q: usize, prev: usize, k: usize, v: usize) -> Stage
 }
 
 // The value of the word before place q; before the first there is none, and no test asks for it.
-pub fn value_before(words: &[u32], q: usize) -> usize
+fn value_before(words: &[u32], q: usize) -> usize
     ensures { λ r. ⌜ r ≡ valueAt (now (words .entry)) (q - 1) ⌝ }
 {
     if q == 0 {
@@ -201,7 +204,7 @@ pub fn value_before(words: &[u32], q: usize) -> usize
 }
 
 // The stage of the word at place q.
-pub fn stage_at(words: &[u32], l: Layout, q: usize) -> Stage
+fn stage_at(words: &[u32], l: Layout, q: usize) -> Stage
     requires { ⌜ (l ≡ layoutOf (now words)) × (q < length (now words)) ⌝ }
     ensures test { λ r. ⌜ r .fault ≡ faultAt (now (words .entry)) q ⌝ }
     ensures onward { λ r. ⌜ Onward l q (kindAt (now (words .entry)) q) (r .most) (r .next) ⌝ }
@@ -214,8 +217,8 @@ pub fn stage_at(words: &[u32], l: Layout, q: usize) -> Stage
 }
 
 // The smaller of two places.
-pub fn least(a: usize, b: usize) -> usize
-    ensures { λ r. ⌜ (r ≤ a) × (r ≤ b) ⌝ }
+fn least(a: usize, b: usize) -> usize
+    ensures { λ r. ⌜ r ≡ min a b ⌝ }
 {
     if a < b {
         return a;
@@ -224,7 +227,7 @@ pub fn least(a: usize, b: usize) -> usize
 }
 
 // The word of value 0 and the same kind.
-pub fn kind_floor(word: u32) -> u32
+fn kind_floor(word: u32) -> u32
     ensures { λ r. ⌜ (r ≡ kindOf word * 268435456) × (r ≤ 4026531840) ⌝ }
 {
     word / 268435456 * 268435456
@@ -232,7 +235,7 @@ pub fn kind_floor(word: u32) -> u32
 
 // Passes the word at place q and all that follow in its stage and range. A word's distance from the kind's word of value 0, modulo 2^32,
 // settles kind and range in one comparison.
-pub fn pass(words: &[u32], q: usize, s: Stage) -> usize
+fn pass(words: &[u32], q: usize, s: Stage) -> usize
     requires { ⌜ Clear (now words) q (s .most) (s .next) ⌝ }
     requires { ⌜ (q < length (now words)) × (s .most < 268435456) ⌝ }
     ensures { λ r. ⌜ Passed (now (words .entry)) q r ⌝ }
@@ -275,15 +278,17 @@ pub fn read(words: &[u32]) -> Verdict
     Verdict::Refused(1, q)
 }
 
+// ---- bytes to words
+
 // A byte as a part of a word.
-pub fn part(byte: u8) -> u32
+fn part(byte: u8) -> u32
     ensures { λ r. ⌜ (r ≡ byte) × (r < 256) ⌝ }
 {
     byte as u32
 }
 
 // The word of the four bytes from place q on, lowest first.
-pub fn word_from(bytes: &[u8], q: usize) -> u32
+fn word_from(bytes: &[u8], q: usize) -> u32
     requires { ⌜ q + 3 < length (now bytes) ⌝ }
     ensures { λ r. ⌜ r ≡ wordFrom (now (bytes .entry)) q ⌝ }
 {
@@ -311,8 +316,10 @@ pub fn load(bytes: &[u8], words: &mut [u32]) -> Reply
     Reply::Number(n)
 }
 
+// ---- the sizing figure
+
 // The smaller of n and 268,435,455, the greatest figure.
-pub fn capped(n: usize) -> usize
+fn capped(n: usize) -> usize
     ensures { λ r. ⌜ (r ≡ min 268435455 n) × (r ≤ 268435455) ⌝ }
 {
     if 268435455 < n {
@@ -322,7 +329,7 @@ pub fn capped(n: usize) -> usize
 }
 
 // The smaller of 268,435,455 and w + w^2 + .. + w^u. What lies above is cut off at each step, and what is cut off stays so.
-pub fn space_bound(w: usize, u: usize) -> usize
+fn space_bound(w: usize, u: usize) -> usize
     requires { ⌜ w < 268435456 ⌝ }
     ensures { λ r. ⌜ r ≡ min 268435455 (sumTo u (powerUp w)) ⌝ }
 {

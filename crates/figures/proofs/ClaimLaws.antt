@@ -26,9 +26,10 @@ use Rattle.model.specs.Best.{Everywhere, NoneAllowed}
 use Rattle.model.specs.Nogood.{Nogood, Holds}
 use Rattle.model.specs.Answer.{Found}
 use Rattle.model.proofs.DomainLaws.{permits-below}
+use Rattle.model.proofs.FileLaws.{fair}
 use Rattle.figures.specs.Rows.{Claim, cheapest, noneAt, none, conflict, noConflict, meeting, starts, rule, places, ranked, Claimed, Row, All, member, nobody}
-use Rattle.figures.specs.Tests.{isFair, isSound, everySound, isEarlier, notBetter, dearer, takes, notTaken, isLegal, below, startIs, breaksRule, isAccepted, claimTest, rowTest, tests}
-use Rattle.figures.proofs.TestLaws.{fair-of, sound-at, listed, listed-cost, every-at, earlier-of, legal-of, takes-of, takes-at}
+use Rattle.figures.specs.Tests.{isSound, everySound, isEarlier, notBetter, dearer, takes, notTaken, isLegal, below, startIs, breaksRule, isAccepted, claimTest, rowTest, tests}
+use Rattle.figures.proofs.TestLaws.{sound-at, listed, listed-cost, every-at, earlier-of, legal-of, takes-of, takes-at}
 
 -- ---- claims about all schedules
 
@@ -171,8 +172,7 @@ all-of-tests [] e = tt
 all-of-tests (r ∷ rs) e =
     let f = r .file in
     let a = isAccepted (readOf f) in
-    let b = isFair (problemOf f) in
-    let c = claimTest f (problemOf f) (r .claim) in
-    let abc = and-left (a && b && c) (tests rs) e in
-    let ab = and-left (a && b) c abc in
-    ((accepted-of (readOf f) (and-left a b ab), claim-of f (r .claim) (fair-of (problemOf f) (and-right a b ab)) (and-right (a && b) c abc)), all-of-tests rs (and-right (a && b && c) (tests rs) e))
+    let b = claimTest f (problemOf f) (r .claim) in
+    let ab = and-left (a && b) (tests rs) e in
+    let read = accepted-of (readOf f) (and-left a b ab) in
+    ((read, claim-of f (r .claim) (fair f read) (and-right a b ab)), all-of-tests rs (and-right (a && b) (tests rs) e))

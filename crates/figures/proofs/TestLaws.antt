@@ -1,6 +1,6 @@
--- What the computed tests say: of a problem, of a schedule, and of all sound schedules by those that lists stand for.
+-- What the computed tests say: of a schedule, and of all sound schedules by those that lists stand for.
 -- Assumes nothing.
-use Prim.Native.Nat.{ℕ, _+_, _^_, _<_}
+use Prim.Native.Nat.{ℕ, _+_, _^_}
 use mathlib.Core.Path.{_≡_, refl, _∙_}
 use mathlib.Core.Bool.{Bool, true, _&&_}
 use mathlib.Core.List.{List, [], _∷_}
@@ -22,24 +22,7 @@ use Rattle.model.proofs.DomainLaws.{permits-below}
 use Rattle.model.proofs.ScheduleLaws.{sound-agree, cost-agree}
 use Rattle.model.proofs.CommitmentLaws.{free-of, free-at}
 use Rattle.model.proofs.OrderLaws.{lower-agree}
-use Rattle.figures.specs.Tests.{unitFair, pairFair, isFair, permitsAt, runAt, isSound, everySound, sameTo, lowerAt, isLower, isEarlier, takes, isLegal}
-
--- ---- a problem
-
-pub fair-of : (p : Problem) → isFair p ≡ true → Fair p
-unfolding isFair unitFair pairFair
-fair-of p e = record {
-  from-one = λ i h. leb-true 1 (p .earliest i) (and-left (leb 1 (p .earliest i)) (leb 1 (p .duration i)) (units i h));
-  some-weeks = λ i h. leb-true 1 (p .duration i) (and-right (leb 1 (p .earliest i)) (leb 1 (p .duration i)) (units i h));
-  pairs-a = λ n h. ltb-true (p .pairA n) (p .units) (and-left (ltb (p .pairA n) (p .units)) (ltb (p .pairB n) (p .units)) (pairs n h));
-  pairs-b = λ n h. ltb-true (p .pairB n) (p .units) (and-right (ltb (p .pairA n) (p .units)) (ltb (p .pairB n) (p .units)) (pairs n h));
-}
-  where
-    units : (i : ℕ) → i < p .units → unitFair p i ≡ true
-    units i h = all-at (p .units) (unitFair p) (and-left (allTo (p .units) (unitFair p)) (allTo (p .pairs) (pairFair p)) e) i h
-
-    pairs : (n : ℕ) → n < p .pairs → pairFair p n ≡ true
-    pairs n h = all-at (p .pairs) (pairFair p) (and-right (allTo (p .units) (unitFair p)) (allTo (p .pairs) (pairFair p)) e) n h
+use Rattle.figures.specs.Tests.{permitsAt, runAt, isSound, everySound, sameTo, lowerAt, isLower, isEarlier, takes, isLegal}
 
 -- ---- a schedule
 

@@ -20,21 +20,6 @@ use Rattle.model.specs.Reading.{readOf}
 use Rattle.model.specs.Nogood.{Choice, Nogood}
 use Rattle.figures.specs.Rows.{Claim, cheapest, noneAt, none, conflict, noConflict, meeting, starts, rule, places, ranked, Row, member, nobody}
 
--- ---- what the laws ask of a problem
-
--- `Fair` for unit i
-unfoldable pub unitFair : Problem → ℕ → Bool
-unitFair p i = leb 1 (p .earliest i) && leb 1 (p .duration i)
-
--- `Fair` for pair n
-unfoldable pub pairFair : Problem → ℕ → Bool
-pairFair p n = ltb (p .pairA n) (p .units) && ltb (p .pairB n) (p .units)
-
--- `Fair`
-unfoldable pub isFair : Problem → Bool
-unfolding unitFair pairFair
-isFair p = allTo (p .units) (unitFair p) && allTo (p .pairs) (pairFair p)
-
 -- ---- sound schedules
 
 -- unit i's start is permitted
@@ -142,10 +127,10 @@ claimTest f p (rule grid n) = breaksRule n (judgeOf f grid)
 claimTest f p (places n figure) = eqb (prefixes p) n && eqb (spaceBound p) figure
 claimTest f p (ranked ss n) = leb 1 (length ss) && leb (length ss) (p .units) && startsFrom p 0 ss && eqb (rank p ss) n
 
--- the test of a row: its file is accepted and fair, its claim tests true
+-- the test of a row: its file is accepted, its claim tests true
 unfoldable pub rowTest : Row → Bool
-unfolding isFair claimTest
-rowTest r = isAccepted (readOf (r .file)) && isFair (problemOf (r .file)) && claimTest (r .file) (problemOf (r .file)) (r .claim)
+unfolding claimTest
+rowTest r = isAccepted (readOf (r .file)) && claimTest (r .file) (problemOf (r .file)) (r .claim)
 
 -- the test of all rows
 unfoldable pub tests : List Row → Bool

@@ -1,16 +1,14 @@
 -- An accepted file with its layout is all that the accessors ask for.
 -- Assumes nothing.
-use Prim.Native.Nat.{ℕ, _+_, _*_, _≤_, _<_}
+use Prim.Native.Nat.{ℕ, _≤_}
 use mathlib.Core.Path.{_≡_, refl, subst⁻¹}
 use mathlib.Core.List.{List}
 use native.Mathlib.Nat.{mul-le-mul}
 use native.Mathlib.Omega.{arith}
-use lib.ListN.{length}
 use Rattle.model.specs.declared.Layout.{Layout}
 use Rattle.model.specs.Words.{layoutOf, problemOf}
 use Rattle.model.specs.Verdict.{accepted}
 use Rattle.model.specs.Reading.{readOf}
-use Rattle.model.specs.Ranges.{Ranged, Complete}
 use Rattle.model.proofs.ReadingLaws.{layout-laid}
 use Rattle.model.proofs.FileLaws.{complete, ranged, pair-word}
 use Rattle.instance.specs.Filed.{Filed}

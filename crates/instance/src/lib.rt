@@ -18,6 +18,7 @@ pub struct Euro(pub u64);
 pub struct Kilo(pub u64);
 
 impl Euro {
+    // The sum of two amounts.
     pub fn plus(self, other: Euro) -> Euro
         requires { ⌜ self .0 + other .0 < 2 ^ 64 ⌝ }
         ensures { λ r. ⌜ r .0 ≡ self .0 + other .0 ⌝ }
@@ -27,6 +28,7 @@ impl Euro {
 }
 
 impl Kilo {
+    // The sum of two weights.
     pub fn plus(self, other: Kilo) -> Kilo
         requires { ⌜ self .0 + other .0 < 2 ^ 64 ⌝ }
         ensures { λ r. ⌜ r .0 ≡ self .0 + other .0 ⌝ }

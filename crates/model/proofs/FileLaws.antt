@@ -1,15 +1,17 @@
 -- What an accepted file holds: it goes as far as its sections, its pairs and its end word, and every figure of its problem lies in
 -- the range of the file table.
 -- Assumes nothing.
-use Prim.Native.Nat.{ℕ, zero, suc, _+_, _*_, _-_, _≤_, _<_}
+use Prim.Native.Nat.{ℕ, zero, suc, _+_, _*_, _-_, _^_, _≤_, _<_}
 use mathlib.Core.Path.{_≡_, refl, _∙_}
 use mathlib.Core.List.{List}
 use mathlib.Core.Logic.{⊎-elim}
-use native.Mathlib.Nat.{eq-or-lt-of-le, le-of-suc-le-suc, lt-trans}
+use native.Mathlib.Nat.{eq-or-lt-of-le, le-of-suc-le-suc, lt-trans, pow-zero, pow-suc, mul-le-mul}
 use native.Mathlib.Omega.{arith}
 use lib.Arith.{digits-lt}
 use lib.ListN.{length, getD}
+use Rattle.sums.specs.Sum.{sumTo}
 use Rattle.model.specs.Problem.{Problem, Fair}
+use Rattle.model.specs.Prefix.{spaceBound}
 use Rattle.model.specs.Words.{_∶_, kindOf, valueOf, kindAt, valueAt, layoutOf, problemOf, Laid}
 use Rattle.model.specs.Verdict.{accepted}
 use Rattle.model.specs.Reading.{dueAt, valueFault, faultAt, readOf}
@@ -17,6 +19,16 @@ use Rattle.model.specs.Ranges.{Ranged, Complete}
 use Rattle.model.proofs.ReadingLaws.{faultless, end-last, end-once, within-bounds, WindowFits, window-fits, PairFits, pair-fits, end-counts}
 use Rattle.model.proofs.ReadingLaws.{layout-laid, due-demand, due-triple, due-maint, due-running, due-pair}
 use Rattle.model.proofs.ReadingLaws.{value-passes, kind-due, kind-pair, end-after}
+
+-- a power of a number of weeks is 1 or more
+power-some : (w n : ℕ) → 1 ≤ w → 1 ≤ w ^ n
+power-some w zero h = omega (arith, pow-zero w)
+power-some w (suc n) h = omega (arith, pow-suc w n, mul-le-mul (power-some w n h) h)
+
+-- and so is the sizing figure, where there is a week and a unit
+space-some : (p : Problem) (n : ℕ) → p .units ≡ suc n → 1 ≤ p .weeks → 1 ≤ spaceBound p
+unfolding spaceBound sumTo
+space-some p n e h = rw e (omega (arith, power-some (p .weeks) (n + 1) h))
 
 -- a word is its kind and its value
 pub word-is : (ws : List ℕ) (q : ℕ) → getD ws q 0 ≡ kindAt ws q ∶ valueAt ws q
@@ -215,3 +227,9 @@ module _ (ws : List ℕ) (e : readOf ws ≡ accepted) where
   -- so its problem is fair
   pub fair : Fair (problemOf ws)
   fair = fair-ranged (problemOf ws) ranged
+
+  -- and its sizing figure is not 0
+  pub sizing-some : 1 ≤ spaceBound (problemOf ws)
+  sizing-some =
+      let u : problemOf ws .units ≡ suc (problemOf ws .units - 1) = omega (arith, ranged .units-some) in
+      space-some (problemOf ws) (problemOf ws .units - 1) u (ranged .weeks-some)

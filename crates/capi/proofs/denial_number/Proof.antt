@@ -1,3 +1,4 @@
+-- `capi::denial_number` meets its contract: by cases.
 -- Assumes nothing.
 use Rattle.capi.proofs.CodeLaws.{replies}
 use borrow.Author.Needs.{needs}
@@ -6,19 +7,15 @@ use Rattle.capi.proofs.denial_number.Tie as tie
 use Rattle.capi.proofs.denial_number.Reads as reads
 use Rattle.capi.proofs.denial_number.Lts as lts
 
--- src/lib.rt:36:32
 enum-known-reply : tie.Need-enum-known-reply
 enum-known-reply c = search needs
 
--- src/lib.rt:37:32
 enum-known-reply-2 : tie.Need-enum-known-reply-2
 enum-known-reply-2 c = search needs
 
--- src/lib.rt:32:1
 returns : tie.Need-returns
 returns c = search replies
 
--- src/lib.rt:32:1
 returns-2 : tie.Need-returns-2
 returns-2 c = search replies
 

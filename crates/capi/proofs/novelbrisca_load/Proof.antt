@@ -1,3 +1,4 @@
+-- `capi::novelbrisca_load` meets its contract: the answer and the words of `decoder::load`.
 -- Assumes nothing.
 use Rattle.capi.proofs.CodeLaws.{codes}
 use borrow.Author.Needs.{needs}
@@ -8,19 +9,15 @@ use Rattle.capi.proofs.novelbrisca_load.Lts as lts
 use Rattle.capi.proofs.denial_number.Reads as denial-number-reads
 use Rattle.decoder.proofs.load.Reads as load-reads
 
--- src/lib.rt:57:9
 load-requires : tie.Need-load-requires
 load-requires c κs = search needs
 
--- src/lib.rt:58:5
 denial-number-requires : tie.Need-denial-number-requires
 denial-number-requires c κs = search needs
 
--- src/lib.rt:52:1
 same-length : tie.Need-same-length
 same-length c = search needs
 
--- src/lib.rt:52:1
 returns : tie.Need-returns
 returns c = (search codes, search codes)
 

@@ -1,3 +1,4 @@
+-- `capi::novelbrisca_read` meets its contract: the verdict of `decoder::read`.
 -- Assumes nothing.
 use Rattle.capi.proofs.CodeLaws.{codes}
 use borrow.Author.Needs.{needs}
@@ -8,15 +9,12 @@ use Rattle.capi.proofs.novelbrisca_read.Lts as lts
 use Rattle.capi.proofs.refusal_number.Reads as refusal-number-reads
 use Rattle.decoder.proofs.read.Reads as read-reads
 
--- src/lib.rt:66:9
 read-requires : tie.Need-read-requires
 read-requires c κs = search needs
 
--- src/lib.rt:67:5
 refusal-number-requires : tie.Need-refusal-number-requires
 refusal-number-requires c κs = search needs
 
--- src/lib.rt:62:1
 returns : tie.Need-returns
 returns c = search codes
 

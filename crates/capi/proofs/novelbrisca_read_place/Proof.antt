@@ -1,3 +1,4 @@
+-- `capi::novelbrisca_read_place` meets its contract: the verdict of `decoder::read`.
 -- Assumes nothing.
 use Rattle.capi.proofs.CodeLaws.{codes}
 use borrow.Author.Needs.{needs}
@@ -8,15 +9,12 @@ use Rattle.capi.proofs.novelbrisca_read_place.Lts as lts
 use Rattle.capi.proofs.refusal_place.Reads as refusal-place-reads
 use Rattle.decoder.proofs.read.Reads as read-reads
 
--- src/lib.rt:75:9
 read-requires : tie.Need-read-requires
 read-requires c κs = search needs
 
--- src/lib.rt:76:5
 refusal-place-requires : tie.Need-refusal-place-requires
 refusal-place-requires c κs = search needs
 
--- src/lib.rt:71:1
 returns : tie.Need-returns
 returns c = search codes
 

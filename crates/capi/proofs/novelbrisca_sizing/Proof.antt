@@ -1,3 +1,4 @@
+-- `capi::novelbrisca_sizing` meets its contract: the reply of `decoder::sizing`.
 -- Assumes nothing.
 use Rattle.capi.proofs.CodeLaws.{codes}
 use borrow.Author.Needs.{needs}
@@ -8,15 +9,12 @@ use Rattle.capi.proofs.novelbrisca_sizing.Lts as lts
 use Rattle.capi.proofs.number_given.Reads as number-given-reads
 use Rattle.decoder.proofs.sizing.Reads as sizing-reads
 
--- src/lib.rt:84:9
 sizing-requires : tie.Need-sizing-requires
 sizing-requires c κs = search needs
 
--- src/lib.rt:85:5
 number-given-requires : tie.Need-number-given-requires
 number-given-requires c κs = search needs
 
--- src/lib.rt:80:1
 returns : tie.Need-returns
 returns c = search codes
 

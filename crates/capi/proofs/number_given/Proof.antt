@@ -1,3 +1,4 @@
+-- `capi::number_given` meets its contract: by cases.
 -- Assumes nothing.
 use Rattle.capi.proofs.CodeLaws.{replies}
 use borrow.Author.Needs.{needs}
@@ -6,19 +7,15 @@ use Rattle.capi.proofs.number_given.Tie as tie
 use Rattle.capi.proofs.number_given.Reads as reads
 use Rattle.capi.proofs.number_given.Lts as lts
 
--- src/lib.rt:46:32
 enum-known-reply : tie.Need-enum-known-reply
 enum-known-reply c = search needs
 
--- src/lib.rt:47:32
 enum-known-reply-2 : tie.Need-enum-known-reply-2
 enum-known-reply-2 c = search needs
 
--- src/lib.rt:42:1
 returns : tie.Need-returns
 returns c = search replies
 
--- src/lib.rt:42:1
 returns-2 : tie.Need-returns-2
 returns-2 c = search replies
 

@@ -1,3 +1,4 @@
+-- `decoder::due_at` meets its contract: the definition's chain of tests, the pairs first.
 -- Assumes nothing.
 use Rattle.decoder.proofs.ArmLaws.{pairs-due}
 use Rattle.model.specs.Reading.{dueAt}
@@ -8,39 +9,31 @@ use Rattle.decoder.proofs.due_at.Tie as tie
 use Rattle.decoder.proofs.due_at.Reads as reads
 use Rattle.decoder.proofs.due_at.Lts as lts
 
--- src/lib.rt:41:9
 returns : tie.Need-returns
 returns c = search pairs-due
 
--- src/lib.rt:44:16
 add-result : tie.Need-add-result
 add-result c = search needs
 
--- src/lib.rt:44:9
 returns-2 : tie.Need-returns-2
 unfolding dueAt
 returns-2 c = search tests
 
--- src/lib.rt:47:9
 returns-3 : tie.Need-returns-3
 unfolding dueAt
 returns-3 c = search tests
 
--- src/lib.rt:50:16
 add-result-2 : tie.Need-add-result-2
 add-result-2 c = search needs
 
--- src/lib.rt:50:9
 returns-4 : tie.Need-returns-4
 unfolding dueAt
 returns-4 c = search tests
 
--- src/lib.rt:53:9
 returns-5 : tie.Need-returns-5
 unfolding dueAt
 returns-5 c = search tests
 
--- src/lib.rt:36:1
 returns-6 : tie.Need-returns-6
 unfolding dueAt
 returns-6 c = search tests

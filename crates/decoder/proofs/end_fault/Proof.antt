@@ -1,3 +1,4 @@
+-- `decoder::end_fault` meets its contract: the definition's test.
 -- Assumes nothing.
 use Rattle.model.specs.Reading.{endFault}
 use Rattle.sums.proofs.Tests.{tests}
@@ -6,12 +7,10 @@ use Rattle.decoder.proofs.end_fault.Tie as tie
 use Rattle.decoder.proofs.end_fault.Reads as reads
 use Rattle.decoder.proofs.end_fault.Lts as lts
 
--- src/lib.rt:107:9
 returns : tie.Need-returns
 unfolding endFault
 returns c = search tests
 
--- src/lib.rt:103:1
 returns-2 : tie.Need-returns-2
 unfolding endFault
 returns-2 c = search tests

@@ -1,3 +1,4 @@
+-- `decoder::kind_floor` meets its contract: what the division cuts off is the value.
 -- Assumes nothing.
 use Rattle.model.specs.Words.{kindOf}
 use borrow.Author.Needs.{needs}
@@ -6,11 +7,9 @@ use Rattle.decoder.proofs.kind_floor.Tie as tie
 use Rattle.decoder.proofs.kind_floor.Reads as reads
 use Rattle.decoder.proofs.kind_floor.Lts as lts
 
--- src/lib.rt:227:5
 mul-result : tie.Need-mul-result
 mul-result c = search needs
 
--- src/lib.rt:224:1
 returns : tie.Need-returns
 unfolding kindOf
 returns c = search needs

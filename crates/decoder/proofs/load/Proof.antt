@@ -1,3 +1,4 @@
+-- `decoder::load` meets its contract: the words written so far are the list's beginning, and the rest is as it was lent.
 -- Assumes nothing.
 use Prim.Native.Nat.{_-_, _≤_}
 use mathlib.Core.Path.{_≡_, refl}
@@ -18,51 +19,39 @@ Inv-loop bytes words₀ n k₀ words k = (k ≤ n) × (length words ≡ length w
 abbrev μ-loop : tie.MeasureT-loop
 μ-loop bytes words₀ n k₀ words k = n - k
 
--- src/lib.rt:294:9
 returns : tie.Need-returns Inv-loop μ-loop
 returns c = (search load-uneven, search words-kept)
 
--- src/lib.rt:298:9
 returns-2 : tie.Need-returns-2 Inv-loop μ-loop
 returns-2 c = (search load-short, search words-kept)
 
--- src/lib.rt:300:5
 loop-holds : tie.Need-loop-holds Inv-loop μ-loop
 loop-holds c = (search needs, refl, search words-start)
 
--- src/lib.rt:301:37
 mul-word-from : tie.Need-mul-word-from Inv-loop μ-loop
 mul-word-from c = search needs
 
--- src/lib.rt:301:20
 word-from-requires : tie.Need-word-from-requires Inv-loop μ-loop
 word-from-requires c κs = search needs
 
--- src/lib.rt:301:9
 mul-words : tie.Need-mul-words Inv-loop μ-loop
 mul-words c = search needs
 
--- src/lib.rt:301:9
 slice-write-words : tie.Need-slice-write-words Inv-loop μ-loop
 slice-write-words c = search needs
 
--- src/lib.rt:300:9
 add-k : tie.Need-add-k Inv-loop μ-loop
 add-k c = search needs
 
--- src/lib.rt:300:5
 loop-less : tie.Need-loop-less Inv-loop μ-loop
 loop-less c = search needs
 
--- src/lib.rt:300:5
 loop-again : tie.Need-loop-again Inv-loop μ-loop
 loop-again c = (search needs, search (needs, length-set), search words-next)
 
--- src/lib.rt:289:1
 same-length : tie.Need-same-length Inv-loop μ-loop
 same-length c = search needs
 
--- src/lib.rt:289:1
 returns-3 : tie.Need-returns-3 Inv-loop μ-loop
 returns-3 c = (search load-all, search words-ended)
 

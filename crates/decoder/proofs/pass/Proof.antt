@@ -1,3 +1,4 @@
+-- `decoder::pass` meets its contract: every word passed leaves the verdict as it was.
 -- Assumes nothing.
 use Prim.Native.Nat.{_+_, _-_, _<_, _≤_}
 use mathlib.Core.Path.{_≡_}
@@ -20,59 +21,45 @@ Inv-loop words q most low end p₀ p =
 abbrev μ-loop : tie.MeasureT-loop
 μ-loop words q most low end p₀ p = end - p
 
--- src/lib.rt:238:26
 mul-kind-floor : tie.Need-mul-kind-floor Inv-loop μ-loop
 mul-kind-floor c = search needs
 
--- src/lib.rt:238:26
 shared-slice-read-kind-floor : tie.Need-shared-slice-read-kind-floor Inv-loop μ-loop
 shared-slice-read-kind-floor c = search needs
 
--- src/lib.rt:238:9
 kind-floor-requires : tie.Need-kind-floor-requires Inv-loop μ-loop
 kind-floor-requires c κs = search needs
 
--- src/lib.rt:239:9
 least-requires : tie.Need-least-requires Inv-loop μ-loop
 least-requires c κs = search needs
 
--- src/lib.rt:240:17
 add-p : tie.Need-add-p Inv-loop μ-loop
 add-p c = search needs
 
--- src/lib.rt:241:5
 loop-holds : tie.Need-loop-holds Inv-loop μ-loop
 loop-holds c = search pass-start
 
--- src/lib.rt:242:51
 mul-wrapping-sub-u32 : tie.Need-mul-wrapping-sub-u32 Inv-loop μ-loop
 mul-wrapping-sub-u32 c = search needs
 
--- src/lib.rt:242:51
 shared-slice-read-wrapping-sub-u32 : tie.Need-shared-slice-read-wrapping-sub-u32 Inv-loop μ-loop
 shared-slice-read-wrapping-sub-u32 c = search needs
 
--- src/lib.rt:242:13
 wrapping-sub-u32-requires : tie.Need-wrapping-sub-u32-requires Inv-loop μ-loop
 wrapping-sub-u32-requires c κs = search needs
 
--- src/lib.rt:244:13
 returns : tie.Need-returns Inv-loop μ-loop
 returns c = search pass-stop
 
--- src/lib.rt:246:9
 add-p-2 : tie.Need-add-p-2 Inv-loop μ-loop
 add-p-2 c = search needs
 
--- src/lib.rt:241:5
 loop-less : tie.Need-loop-less Inv-loop μ-loop
 loop-less c = search needs
 
--- src/lib.rt:241:5
 loop-again : tie.Need-loop-again Inv-loop μ-loop
 loop-again c = (search needs, search needs, search pass-next)
 
--- src/lib.rt:232:1
 returns-2 : tie.Need-returns-2 Inv-loop μ-loop
 returns-2 c = search pass-stop
 

@@ -1,3 +1,4 @@
+-- `decoder::range` meets its contract: the definition's two tests.
 -- Assumes nothing.
 use Rattle.model.specs.Reading.{within}
 use Rattle.sums.proofs.Tests.{tests}
@@ -6,17 +7,14 @@ use Rattle.decoder.proofs.range.Tie as tie
 use Rattle.decoder.proofs.range.Reads as reads
 use Rattle.decoder.proofs.range.Lts as lts
 
--- src/lib.rt:43:9
 returns : tie.Need-returns
 unfolding within
 returns c = search tests
 
--- src/lib.rt:46:9
 returns-2 : tie.Need-returns-2
 unfolding within
 returns-2 c = search tests
 
--- src/lib.rt:39:1
 returns-3 : tie.Need-returns-3
 unfolding within
 returns-3 c = search tests

@@ -1,3 +1,4 @@
+-- `decoder::read` meets its contract: at every place the verdict is the one from there on.
 -- Assumes nothing.
 use Prim.Native.Nat.{_-_, _≤_}
 use mathlib.Core.Path.{_≡_}
@@ -20,63 +21,48 @@ Inv-loop words l q₀ q = (q ≤ length words) × (readOf words ≡ readFrom wor
 abbrev μ-loop : tie.MeasureT-loop
 μ-loop words l q₀ q = length words - q
 
--- src/lib.rt:246:9
 layout-of-requires : tie.Need-layout-of-requires Inv-loop μ-loop
 layout-of-requires c κs = search needs
 
--- src/lib.rt:248:5
 loop-holds : tie.Need-loop-holds Inv-loop μ-loop
 loop-holds c = (search needs, search read-start)
 
--- src/lib.rt:249:13
 stage-at-requires : tie.Need-stage-at-requires Inv-loop μ-loop
 stage-at-requires c κs = search needs
 
--- src/lib.rt:252:13
 returns : tie.Need-returns Inv-loop μ-loop
 returns c = search read-fault
 
--- src/lib.rt:254:35
 mul-kind-of : tie.Need-mul-kind-of Inv-loop μ-loop
 mul-kind-of c = search needs
 
--- src/lib.rt:254:35
 shared-slice-read-kind-of : tie.Need-shared-slice-read-kind-of Inv-loop μ-loop
 shared-slice-read-kind-of c = search needs
 
--- src/lib.rt:254:13
 kind-of-requires : tie.Need-kind-of-requires Inv-loop μ-loop
 kind-of-requires c κs = search needs
 
--- src/lib.rt:256:16
 add-if3 : tie.Need-add-if3 Inv-loop μ-loop
 add-if3 c = search needs
 
--- src/lib.rt:257:17
 returns-2 : tie.Need-returns-2 Inv-loop μ-loop
 returns-2 c = search read-end
 
--- src/lib.rt:259:40
 add-t11 : tie.Need-add-t11 Inv-loop μ-loop
 add-t11 c = search needs
 
--- src/lib.rt:259:13
 returns-3 : tie.Need-returns-3 Inv-loop μ-loop
 returns-3 c = search read-more
 
--- src/lib.rt:261:9
 pass-requires : tie.Need-pass-requires Inv-loop μ-loop
 pass-requires c κs = (search stage-clear, search needs)
 
--- src/lib.rt:248:5
 loop-less : tie.Need-loop-less Inv-loop μ-loop
 loop-less c = search needs
 
--- src/lib.rt:248:5
 loop-again : tie.Need-loop-again Inv-loop μ-loop
 loop-again c = (search needs, search read-next)
 
--- src/lib.rt:243:1
 returns-4 : tie.Need-returns-4 Inv-loop μ-loop
 returns-4 c = search read-out
 

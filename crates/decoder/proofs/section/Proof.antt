@@ -1,3 +1,4 @@
+-- `decoder::section` meets its contract: its range is the definition's.
 -- Assumes nothing.
 use Rattle.decoder.proofs.ArmLaws.{section-range}
 use borrow.Author.Needs.{needs}
@@ -8,15 +9,12 @@ use Rattle.decoder.proofs.section.Lts as lts
 use Rattle.decoder.proofs.range.Reads as range-reads
 use Rattle.instance.proofs.wide.Reads as wide-reads
 
--- src/lib.rt:146:26
 wide-requires : tie.Need-wide-requires
 wide-requires c κs = search needs
 
--- src/lib.rt:146:9
 range-requires : tie.Need-range-requires
 range-requires c κs = search needs
 
--- src/lib.rt:143:1
 returns : tie.Need-returns
 returns c = (search section-range, search needs, search needs)
 

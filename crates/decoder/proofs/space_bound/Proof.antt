@@ -1,3 +1,4 @@
+-- `decoder::space_bound` meets its contract: power and sum are the true ones, cut off.
 -- Assumes nothing.
 use Prim.Native.Nat.{_-_, _^_, _≤_, min}
 use mathlib.Core.Path.{_≡_}
@@ -18,39 +19,30 @@ Inv-loop w u power₀ sum₀ j₀ power sum j =
 abbrev μ-loop : tie.MeasureT-loop
 μ-loop w u power₀ sum₀ j₀ power sum j = u - j
 
--- src/lib.rt:323:5
 loop-holds : tie.Need-loop-holds Inv-loop μ-loop
 loop-holds c = (search needs, search needs, search needs, search power-start, search sum-start)
 
--- src/lib.rt:324:24
 mul-capped : tie.Need-mul-capped Inv-loop μ-loop
 mul-capped c = search cap-fits
 
--- src/lib.rt:324:9
 capped-requires : tie.Need-capped-requires Inv-loop μ-loop
 capped-requires c κs = search needs
 
--- src/lib.rt:325:22
 add-capped : tie.Need-add-capped Inv-loop μ-loop
 add-capped c = search needs
 
--- src/lib.rt:325:9
 capped-requires-2 : tie.Need-capped-requires-2 Inv-loop μ-loop
 capped-requires-2 c κs = search needs
 
--- src/lib.rt:323:9
 add-j : tie.Need-add-j Inv-loop μ-loop
 add-j c = search needs
 
--- src/lib.rt:323:5
 loop-less : tie.Need-loop-less Inv-loop μ-loop
 loop-less c = search needs
 
--- src/lib.rt:323:5
 loop-again : tie.Need-loop-again Inv-loop μ-loop
 loop-again c = (search needs, search needs, search needs, search cap-power, search cap-sum)
 
--- src/lib.rt:317:1
 returns : tie.Need-returns Inv-loop μ-loop
 returns c = search cap-ended
 

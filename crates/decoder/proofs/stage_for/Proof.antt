@@ -1,3 +1,4 @@
+-- `decoder::stage_for` meets its contract: the kind due, or the end word where a pair is due.
 -- Assumes nothing.
 use Rattle.decoder.proofs.StageLaws.{onwards}
 use Rattle.decoder.proofs.ArmLaws.{dues}
@@ -10,39 +11,30 @@ use Rattle.decoder.proofs.alone.Reads as alone-reads
 use Rattle.decoder.proofs.due_at.Reads as due-at-reads
 use Rattle.decoder.proofs.stage_of.Reads as stage-of-reads
 
--- src/lib.rt:180:9
 due-at-requires : tie.Need-due-at-requires
 due-at-requires c κs = search needs
 
--- src/lib.rt:182:9
 stage-of-requires : tie.Need-stage-of-requires
 stage-of-requires c κs = search needs
 
--- src/lib.rt:182:9
 returns : tie.Need-returns
 returns c = (search dues, search onwards)
 
--- src/lib.rt:185:9
 alone-requires : tie.Need-alone-requires
 alone-requires c κs = search needs
 
--- src/lib.rt:185:9
 returns-2 : tie.Need-returns-2
 returns-2 c = (search dues, search onwards)
 
--- src/lib.rt:188:9
 alone-requires-2 : tie.Need-alone-requires-2
 alone-requires-2 c κs = search needs
 
--- src/lib.rt:188:9
 returns-3 : tie.Need-returns-3
 returns-3 c = (search dues, search onwards)
 
--- src/lib.rt:190:5
 stage-of-requires-2 : tie.Need-stage-of-requires-2
 stage-of-requires-2 c κs = search needs
 
--- src/lib.rt:174:1
 returns-4 : tie.Need-returns-4
 returns-4 c = (search dues, search onwards)
 

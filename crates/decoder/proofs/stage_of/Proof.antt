@@ -1,3 +1,4 @@
+-- `decoder::stage_of` meets its contract: one law for each arm.
 -- Assumes nothing.
 use Rattle.decoder.proofs.StageLaws.{onwards}
 use Rattle.decoder.proofs.ArmLaws.{arms}
@@ -14,119 +15,90 @@ use Rattle.decoder.proofs.range.Reads as range-reads
 use Rattle.decoder.proofs.section.Reads as section-reads
 use Rattle.decoder.proofs.window_fault.Reads as window-fault-reads
 
--- src/lib.rt:139:20
 range-requires : tie.Need-range-requires
 range-requires c κs = search needs
 
--- src/lib.rt:139:14
 alone-requires : tie.Need-alone-requires
 alone-requires c κs = search needs
 
--- src/lib.rt:141:14
 section-requires : tie.Need-section-requires
 section-requires c κs = search needs
 
--- src/lib.rt:142:20
 range-requires-2 : tie.Need-range-requires-2
 range-requires-2 c κs = search needs
 
--- src/lib.rt:142:14
 alone-requires-2 : tie.Need-alone-requires-2
 alone-requires-2 c κs = search needs
 
--- src/lib.rt:143:20
 window-fault-requires : tie.Need-window-fault-requires
 window-fault-requires c κs = search needs
 
--- src/lib.rt:143:14
 alone-requires-3 : tie.Need-alone-requires-3
 alone-requires-3 c κs = search needs
 
--- src/lib.rt:144:20
 range-requires-3 : tie.Need-range-requires-3
 range-requires-3 c κs = search needs
 
--- src/lib.rt:144:14
 alone-requires-4 : tie.Need-alone-requires-4
 alone-requires-4 c κs = search needs
 
--- src/lib.rt:145:14
 section-requires-2 : tie.Need-section-requires-2
 section-requires-2 c κs = search needs
 
--- src/lib.rt:146:14
 section-requires-3 : tie.Need-section-requires-3
 section-requires-3 c κs = search needs
 
--- src/lib.rt:147:21
 pair-fault-requires : tie.Need-pair-fault-requires
 pair-fault-requires c κs = search needs
 
--- src/lib.rt:147:15
 alone-requires-5 : tie.Need-alone-requires-5
 alone-requires-5 c κs = search needs
 
--- src/lib.rt:148:21
 end-fault-requires : tie.Need-end-fault-requires
 end-fault-requires c κs = search needs
 
--- src/lib.rt:148:15
 alone-requires-6 : tie.Need-alone-requires-6
 alone-requires-6 c κs = search needs
 
--- src/lib.rt:140:24
 range-requires-4 : tie.Need-range-requires-4
 range-requires-4 c κs = search needs
 
--- src/lib.rt:140:18
 alone-requires-7 : tie.Need-alone-requires-7
 alone-requires-7 c κs = search needs
 
--- src/lib.rt:149:14
 alone-requires-8 : tie.Need-alone-requires-8
 alone-requires-8 c κs = search needs
 
--- src/lib.rt:133:1
 returns : tie.Need-returns
 returns c = (search arms, search onwards)
 
--- src/lib.rt:133:1
 returns-2 : tie.Need-returns-2
 returns-2 c = (search arms, search onwards)
 
--- src/lib.rt:133:1
 returns-3 : tie.Need-returns-3
 returns-3 c = (search arms, search onwards)
 
--- src/lib.rt:133:1
 returns-4 : tie.Need-returns-4
 returns-4 c = (search arms, search onwards)
 
--- src/lib.rt:133:1
 returns-5 : tie.Need-returns-5
 returns-5 c = (search arms, search onwards)
 
--- src/lib.rt:133:1
 returns-6 : tie.Need-returns-6
 returns-6 c = (search arms, search onwards)
 
--- src/lib.rt:133:1
 returns-7 : tie.Need-returns-7
 returns-7 c = (search arms, search onwards)
 
--- src/lib.rt:133:1
 returns-8 : tie.Need-returns-8
 returns-8 c = (search arms, search onwards)
 
--- src/lib.rt:133:1
 returns-9 : tie.Need-returns-9
 returns-9 c = (search arms, search onwards)
 
--- src/lib.rt:133:1
 returns-10 : tie.Need-returns-10
 returns-10 c = (search arms, search onwards)
 
--- src/lib.rt:133:1
 returns-11 : tie.Need-returns-11
 returns-11 c = ⊎-elim (λ (a : _). (search arms, search onwards)) (λ (a : _). (search arms, search onwards)) (c .before .if1 .came)
 

@@ -1,3 +1,4 @@
+-- `decoder::value_before` meets its contract: the place before the first is the first.
 -- Assumes nothing.
 use Rattle.decoder.proofs.StepLaws.{before-first}
 use borrow.Author.Needs.{needs}
@@ -7,23 +8,18 @@ use Rattle.decoder.proofs.value_before.Reads as reads
 use Rattle.decoder.proofs.value_before.Lts as lts
 use Rattle.instance.proofs.value_at.Reads as value-at-reads
 
--- src/lib.rt:191:9
 value-at-requires : tie.Need-value-at-requires
 value-at-requires c κs = search needs
 
--- src/lib.rt:191:9
 returns : tie.Need-returns
 returns c = search before-first
 
--- src/lib.rt:193:31
 sub-value-at : tie.Need-sub-value-at
 sub-value-at c = search needs
 
--- src/lib.rt:193:5
 value-at-requires-2 : tie.Need-value-at-requires-2
 value-at-requires-2 c κs = search needs
 
--- src/lib.rt:187:1
 returns-2 : tie.Need-returns-2
 returns-2 c = search needs
 

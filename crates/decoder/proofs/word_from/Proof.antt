@@ -1,3 +1,4 @@
+-- `decoder::word_from` meets its contract: the four bytes as the definition adds them.
 -- Assumes nothing.
 use Rattle.decoder.proofs.BytesLaws.{word-of}
 use borrow.Author.Needs.{needs}
@@ -7,75 +8,57 @@ use Rattle.decoder.proofs.word_from.Reads as reads
 use Rattle.decoder.proofs.word_from.Lts as lts
 use Rattle.decoder.proofs.part.Reads as part-reads
 
--- src/lib.rt:282:10
 shared-slice-read-part : tie.Need-shared-slice-read-part
 shared-slice-read-part c = search needs
 
--- src/lib.rt:282:5
 part-requires : tie.Need-part-requires
 part-requires c κs = search needs
 
--- src/lib.rt:283:28
 add-part : tie.Need-add-part
 add-part c = search needs
 
--- src/lib.rt:283:22
 shared-slice-read-part-2 : tie.Need-shared-slice-read-part-2
 shared-slice-read-part-2 c = search needs
 
--- src/lib.rt:283:17
 part-requires-2 : tie.Need-part-requires-2
 part-requires-2 c κs = search needs
 
--- src/lib.rt:283:11
 mul-result : tie.Need-mul-result
 mul-result c = search needs
 
--- src/lib.rt:282:5
 add-result : tie.Need-add-result
 add-result c = search needs
 
--- src/lib.rt:284:30
 add-part-2 : tie.Need-add-part-2
 add-part-2 c = search needs
 
--- src/lib.rt:284:24
 shared-slice-read-part-3 : tie.Need-shared-slice-read-part-3
 shared-slice-read-part-3 c = search needs
 
--- src/lib.rt:284:19
 part-requires-3 : tie.Need-part-requires-3
 part-requires-3 c κs = search needs
 
--- src/lib.rt:284:11
 mul-result-2 : tie.Need-mul-result-2
 mul-result-2 c = search needs
 
--- src/lib.rt:282:5
 add-result-2 : tie.Need-add-result-2
 add-result-2 c = search needs
 
--- src/lib.rt:285:33
 add-part-3 : tie.Need-add-part-3
 add-part-3 c = search needs
 
--- src/lib.rt:285:27
 shared-slice-read-part-4 : tie.Need-shared-slice-read-part-4
 shared-slice-read-part-4 c = search needs
 
--- src/lib.rt:285:22
 part-requires-4 : tie.Need-part-requires-4
 part-requires-4 c κs = search needs
 
--- src/lib.rt:285:11
 mul-result-3 : tie.Need-mul-result-3
 mul-result-3 c = search needs
 
--- src/lib.rt:282:5
 add-result-3 : tie.Need-add-result-3
 add-result-3 c = search needs
 
--- src/lib.rt:278:1
 returns : tie.Need-returns
 returns c = search word-of
 
