@@ -10,7 +10,7 @@ use Rattle.model.specs.Words.{layoutOf, problemOf}
 use Rattle.model.specs.Verdict.{accepted}
 use Rattle.model.specs.Reading.{readOf}
 use Rattle.model.proofs.ReadingLaws.{layout-laid}
-use Rattle.model.proofs.FileLaws.{complete, ranged, pair-word}
+use Rattle.model.proofs.FileLaws.{complete, ranged}
 use Rattle.instance.specs.Filed.{Filed}
 
 module _ (ws : List ℕ) (e : readOf ws ≡ accepted) where
@@ -29,7 +29,6 @@ module _ (ws : List ℕ) (e : readOf ws ≡ accepted) where
   filed-laid =
       let r = ranged ws e in
       let c = complete ws e in
-      let a = layout-laid ws in
       let w = weeks-at in
       let u = units-at in
       let wm : l .weeks ≤ 52 = omega (arith, r .weeks-most) in
@@ -42,16 +41,9 @@ module _ (ws : List ℕ) (e : readOf ws ≡ accepted) where
         units-some = omega (arith, r .units-some);
         units-most = um;
         cells-most = mul-le-mul wm um;
-        triples-from = a .triples-at;
-        maints-from = a .maints-at;
-        runnings-from = a .runnings-at;
-        pairs-from = a .pairs-at;
+        sections = layout-laid ws;
         long = omega (arith, c .exact);
         short = omega (arith, c .exact, r .pairs-most);
-        pair-a-some = λ n h. pair-word ws e n h .from-one;
-        pair-b-some = λ n h. let p = pair-word ws e n h in omega (arith, p .from-one, p .order);
-        pair-a-most = λ n h. omega (arith, r .pair-order n h, r .pair-units n h);
-        pair-b-most = λ n h. omega (arith, r .pair-units n h);
       }
 
 -- the file was accepted, and l was computed from it

@@ -1,28 +1,15 @@
 -- The partners of a unit, a pair at a time: what the code's tests of a pair's two units say of `joins`.
 -- Assumes nothing.
-use Prim.Native.Nat.{ℕ, _≤_, _<_}
+use Prim.Native.Nat.{ℕ, _≤_}
 use mathlib.Core.Path.{_≡_, refl, sym, _∙_, ap}
 use mathlib.Core.Bool.{Bool, false, _&&_, _||_, and-true, and-false, or-false, or-self}
-use mathlib.Core.List.{List}
 use native.Mathlib.Decide.{ℕ-discrete}
-use native.Mathlib.Omega.{arith}
 use lib.Dec.{eqb}
 use borrow.Author.Tests.{eq-eqb, ne-eqb}
 use Rattle.sums.specs.NumSet.{has}
 use Rattle.sums.proofs.LoopLaws.{Gathered, gathered-ended}
-use Rattle.model.specs.declared.Layout.{Layout}
 use Rattle.model.specs.Problem.{Problem}
-use Rattle.model.specs.Words.{problemOf}
 use Rattle.model.specs.Pairs.{joins, apart}
-use Rattle.instance.specs.Filed.{Filed}
-
--- the lower unit of a pair fits a set of 32
-pub pair-a-small : (ws : List ℕ) (l : Layout) (n a : ℕ) → Filed ws l → n < problemOf ws .pairs → a ≡ problemOf ws .pairA n → a < 32
-pair-a-small ws l n a f h e = omega (arith, f .pair-a-most n h)
-
--- and so does the higher unit
-pub pair-b-small : (ws : List ℕ) (l : Layout) (n b : ℕ) → Filed ws l → n < problemOf ws .pairs → b ≡ problemOf ws .pairB n → b < 32
-pair-b-small ws l n b f h e = omega (arith, f .pair-b-most n h)
 
 -- ---- the two units of a pair, a and b, and a unit i
 

@@ -10,7 +10,8 @@ use lib.ListN.{length}
 use mir.Syntax.{w64}
 use mir.Val.{Fits}
 use Rattle.model.specs.declared.Layout.{Layout}
-use Rattle.model.specs.Words.{valueAt, problemOf}
+use Rattle.model.specs.Words.{valueAt, layoutOf, problemOf}
+use Rattle.model.proofs.FileLaws.{pair-word}
 use Rattle.instance.specs.Filed.{Filed}
 
 -- week t and unit i have a cell of their own among w weeks of u units
@@ -30,10 +31,13 @@ pair-below ws l n f h = let k : n < length ws - (l .pairs + 1) = rw (f .laid) h 
 pub pair-fits : (ws : List ℕ) (l : Layout) (n : ℕ) → Filed ws l → n < problemOf ws .pairs → Fits w64 (l .pairs + n)
 pair-fits ws l n f h = omega (arith, pair-below ws l n f h)
 
--- the lower unit in pair n's word counts from 1, so the code may take 1 off
-pub pair-a-above : (ws : List ℕ) (l : Layout) (n r : ℕ) → Filed ws l → n < problemOf ws .pairs → r ≡ valueAt ws (l .pairs + n) → 1 ≤ r / 32
-pair-a-above ws l n r f h e = rw e (f .pair-a-some n h)
+-- the units in pair n's word count from 1, so the code may take 1 off
+module _ (ws : List ℕ) (l : Layout) (n r : ℕ) (f : Filed ws l) (h : n < problemOf ws .pairs) (e : r ≡ valueAt ws (l .pairs + n)) where
+  here : r ≡ valueAt ws (layoutOf ws .pairs + n)
+  here = rw (← (f .laid)) e
 
--- and so does the higher unit
-pub pair-b-above : (ws : List ℕ) (l : Layout) (n r : ℕ) → Filed ws l → n < problemOf ws .pairs → r ≡ valueAt ws (l .pairs + n) → 1 ≤ r % 32
-pair-b-above ws l n r f h e = rw e (f .pair-b-some n h)
+  pub pair-a-above : 1 ≤ r / 32
+  pair-a-above = rw here (pair-word ws (f .passed) n h .from-one)
+
+  pub pair-b-above : 1 ≤ r % 32
+  pair-b-above = let p = pair-word ws (f .passed) n h in rw here (omega (arith, p .from-one, p .order))

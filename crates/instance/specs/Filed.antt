@@ -1,11 +1,11 @@
 -- What the accessors ask of a file's words and its layout, in the plain numbers that their sums and places need.
 -- Assumes nothing.
-use Prim.Native.Nat.{ℕ, _+_, _*_, _/_, _%_, _≤_, _<_}
+use Prim.Native.Nat.{ℕ, _+_, _*_, _≤_, _<_}
 use mathlib.Core.Path.{_≡_}
 use mathlib.Core.List.{List}
 use lib.ListN.{length}
 use Rattle.model.specs.declared.Layout.{Layout}
-use Rattle.model.specs.Words.{valueAt, layoutOf, problemOf}
+use Rattle.model.specs.Words.{Laid, layoutOf}
 use Rattle.model.specs.Verdict.{accepted}
 use Rattle.model.specs.Reading.{readOf}
 
@@ -19,16 +19,7 @@ pub record Filed (ws : List ℕ) (l : Layout) : Type 0 where
   pub units-most : l .units ≤ 16
   -- a number for each week and unit
   pub cells-most : l .weeks * l .units ≤ 832
-  pub triples-from : l .triples ≡ 3 + l .weeks
-  pub maints-from : l .maints ≡ l .triples + 3 * l .units
-  pub runnings-from : l .runnings ≡ l .maints + l .weeks * l .units
-  pub pairs-from : l .pairs ≡ l .runnings + l .weeks * l .units
+  pub sections : Laid l
   -- 0 to 120 pairs and the end word
   pub long : l .pairs < length ws
   pub short : length ws ≤ l .pairs + 121
-  -- the units of a pair count from 1 in its word
-  pub pair-a-some : (n : ℕ) → n < problemOf ws .pairs → 1 ≤ valueAt ws (l .pairs + n) / 32
-  pub pair-b-some : (n : ℕ) → n < problemOf ws .pairs → 1 ≤ valueAt ws (l .pairs + n) % 32
-  -- and are units of the file
-  pub pair-a-most : (n : ℕ) → n < problemOf ws .pairs → problemOf ws .pairA n < 16
-  pub pair-b-most : (n : ℕ) → n < problemOf ws .pairs → problemOf ws .pairB n < 16

@@ -69,7 +69,7 @@ pub fn value_at(words: &[u32], q: usize) -> usize
 }
 
 // The layout of w weeks and u units.
-pub fn layout_for(w: usize, u: usize) -> Layout
+fn layout_for(w: usize, u: usize) -> Layout
     requires { ⌜ (w < 268435456) × (u < 268435456) ⌝ }
     ensures { λ r. ⌜ r ≡ layoutFor w u ⌝ }
 {
@@ -96,26 +96,27 @@ pub fn layout_of(words: &[u32]) -> Layout
 }
 
 // M: how many overhauls may go on in one week.
-pub fn crews(words: &[u32]) -> usize
-    ensures { λ r. ⌜ (r ≡ problemOf (now (words .entry)) .crews) × (r < 268435456) ⌝ }
+pub fn crews(words: &[u32], l: Layout) -> usize
+    requires { ⌜ Filed (now words) l ⌝ }
+    ensures { λ r. ⌜ (r ≡ problemOf (now (words .entry)) .crews) × (1 ≤ r) × (r ≤ 16) ⌝ }
 {
-    value_at(words, 2)
+    value_of(words[2])
 }
 
 // D: what week t wants.
 pub fn demand(words: &[u32], l: Layout, t: usize) -> Kilo
     requires { ⌜ Filed (now words) l ⌝ }
     requires { ⌜ t < l .weeks ⌝ }
-    ensures { λ r. ⌜ (r .0 ≡ problemOf (now (words .entry)) .demand t) × (r .0 < 268435456) ⌝ }
+    ensures { λ r. ⌜ (r .0 ≡ problemOf (now (words .entry)) .demand t) × (r .0 ≤ 16000000) ⌝ }
 {
     Kilo(value_of(words[3 + t]) as u64)
 }
 
-// k: what unit i gives in week t.
+// k: what unit i gives in week t; a file has one figure for all weeks, so t is not read.
 pub fn capacity(words: &[u32], l: Layout, t: usize, i: usize) -> Kilo
     requires { ⌜ Filed (now words) l ⌝ }
     requires { ⌜ i < l .units ⌝ }
-    ensures { λ r. ⌜ (r .0 ≡ problemOf (now (words .entry)) .capacity t i) × (r .0 < 268435456) ⌝ }
+    ensures { λ r. ⌜ (r .0 ≡ problemOf (now (words .entry)) .capacity t i) × (r .0 ≤ 1000000) ⌝ }
 {
     let q = l.triples + 3 * i;
     Kilo(value_of(words[q]) as u64)
@@ -125,7 +126,7 @@ pub fn capacity(words: &[u32], l: Layout, t: usize, i: usize) -> Kilo
 pub fn earliest(words: &[u32], l: Layout, i: usize) -> usize
     requires { ⌜ Filed (now words) l ⌝ }
     requires { ⌜ i < l .units ⌝ }
-    ensures { λ r. ⌜ r ≡ problemOf (now (words .entry)) .earliest i ⌝ }
+    ensures { λ r. ⌜ (r ≡ problemOf (now (words .entry)) .earliest i) × (1 ≤ r) × (r ≤ l .weeks) ⌝ }
 {
     let q = l.triples + 3 * i + 1;
     value_of(words[q]) / 64
@@ -135,7 +136,7 @@ pub fn earliest(words: &[u32], l: Layout, i: usize) -> usize
 pub fn latest(words: &[u32], l: Layout, i: usize) -> usize
     requires { ⌜ Filed (now words) l ⌝ }
     requires { ⌜ i < l .units ⌝ }
-    ensures { λ r. ⌜ r ≡ problemOf (now (words .entry)) .latest i ⌝ }
+    ensures { λ r. ⌜ (r ≡ problemOf (now (words .entry)) .latest i) × (1 ≤ r) × (r ≤ l .weeks) ⌝ }
 {
     let q = l.triples + 3 * i + 1;
     value_of(words[q]) % 64
@@ -145,7 +146,7 @@ pub fn latest(words: &[u32], l: Layout, i: usize) -> usize
 pub fn duration(words: &[u32], l: Layout, i: usize) -> usize
     requires { ⌜ Filed (now words) l ⌝ }
     requires { ⌜ i < l .units ⌝ }
-    ensures { λ r. ⌜ r ≡ problemOf (now (words .entry)) .duration i ⌝ }
+    ensures { λ r. ⌜ (r ≡ problemOf (now (words .entry)) .duration i) × (1 ≤ r) × (r ≤ l .weeks) ⌝ }
 {
     let q = l.triples + 3 * i + 2;
     value_of(words[q])
@@ -164,7 +165,7 @@ pub fn cell_place(l: Layout, t: usize, i: usize) -> usize
 pub fn maint_cost(words: &[u32], l: Layout, t: usize, i: usize) -> Euro
     requires { ⌜ Filed (now words) l ⌝ }
     requires { ⌜ (t < l .weeks) × (i < l .units) ⌝ }
-    ensures { λ r. ⌜ (r .0 ≡ problemOf (now (words .entry)) .maint t i) × (r .0 < 268435456) ⌝ }
+    ensures { λ r. ⌜ (r .0 ≡ problemOf (now (words .entry)) .maint t i) × (r .0 ≤ 250000) ⌝ }
 {
     let q = l.maints + cell_place(l, t, i);
     Euro(value_of(words[q]) as u64)
@@ -174,7 +175,7 @@ pub fn maint_cost(words: &[u32], l: Layout, t: usize, i: usize) -> Euro
 pub fn running_cost(words: &[u32], l: Layout, t: usize, i: usize) -> Euro
     requires { ⌜ Filed (now words) l ⌝ }
     requires { ⌜ (t < l .weeks) × (i < l .units) ⌝ }
-    ensures { λ r. ⌜ (r .0 ≡ problemOf (now (words .entry)) .running t i) × (r .0 < 268435456) ⌝ }
+    ensures { λ r. ⌜ (r .0 ≡ problemOf (now (words .entry)) .running t i) × (r .0 ≤ 250000) ⌝ }
 {
     let q = l.runnings + cell_place(l, t, i);
     Euro(value_of(words[q]) as u64)
@@ -222,7 +223,7 @@ pub fn cost_row<'a>(
 // N: how many excluded pairs there are.
 pub fn pairs(words: &[u32], l: Layout) -> usize
     requires { ⌜ Filed (now words) l ⌝ }
-    ensures { λ r. ⌜ (r ≡ problemOf (now (words .entry)) .pairs) × (l .pairs + r < length (now (words .entry))) ⌝ }
+    ensures { λ r. ⌜ (r ≡ problemOf (now (words .entry)) .pairs) × (r ≤ 120) ⌝ }
 {
     words.len() - (l.pairs + 1)
 }
@@ -241,7 +242,7 @@ fn pair_value(words: &[u32], l: Layout, n: usize) -> usize
 pub fn pair_a(words: &[u32], l: Layout, n: usize) -> usize
     requires { ⌜ Filed (now words) l ⌝ }
     requires { ⌜ n < problemOf (now words) .pairs ⌝ }
-    ensures { λ r. ⌜ r ≡ problemOf (now (words .entry)) .pairA n ⌝ }
+    ensures { λ r. ⌜ (r ≡ problemOf (now (words .entry)) .pairA n) × (r < l .units) ⌝ }
 {
     pair_value(words, l, n) / 32 - 1
 }
@@ -250,13 +251,13 @@ pub fn pair_a(words: &[u32], l: Layout, n: usize) -> usize
 pub fn pair_b(words: &[u32], l: Layout, n: usize) -> usize
     requires { ⌜ Filed (now words) l ⌝ }
     requires { ⌜ n < problemOf (now words) .pairs ⌝ }
-    ensures { λ r. ⌜ r ≡ problemOf (now (words .entry)) .pairB n ⌝ }
+    ensures { λ r. ⌜ (r ≡ problemOf (now (words .entry)) .pairB n) × (r < l .units) ⌝ }
 {
     pair_value(words, l, n) % 32 - 1
 }
 
 // What pair n adds to the partners of unit i found so far.
-pub fn partner_added(words: &[u32], l: Layout, i: usize, n: usize, found: u32) -> u32
+fn partner_added(words: &[u32], l: Layout, i: usize, n: usize, found: u32) -> u32
     requires { ⌜ Filed (now words) l ⌝ }
     requires { ⌜ n < problemOf (now words) .pairs ⌝ }
     ensures { λ r. ⌜ ((j : ℕ) → has r j ≡ (has found j || joins (problemOf (now (words .entry))) i j n)) ⌝ }

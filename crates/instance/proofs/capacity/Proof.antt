@@ -1,7 +1,7 @@
 -- `instance::capacity` meets its contract: the word at the unit's capacity is read.
 -- Assumes nothing.
 use borrow.Author.Needs.{needs}
-use Rattle.instance.proofs.FigureLaws.{capacity-at}
+use Rattle.instance.proofs.FigureLaws.{capacity-at, capacity-most}
 use Rattle.instance.proofs.capacity.Statement.{statement}
 use Rattle.instance.proofs.capacity.Tie as tie
 
@@ -21,7 +21,7 @@ value-of-requires : tie.Need-value-of-requires
 value-of-requires c κs = search needs
 
 returns : tie.Need-returns
-returns c = (search capacity-at, search needs)
+returns c = (search capacity-at, search capacity-most)
 
 pub capacity-spec : {M : Type 1} → statement M
 capacity-spec =

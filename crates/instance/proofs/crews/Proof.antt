@@ -1,16 +1,21 @@
--- `instance::crews` meets its contract: the third word, by definition.
+-- `instance::crews` meets its contract: the third word is read.
 -- Assumes nothing.
+use Rattle.instance.proofs.FigureLaws.{crews-at, crews-some, crews-most}
 use borrow.Author.Needs.{needs}
-use Rattle.model.specs.Words.{problemOf}
 use Rattle.instance.proofs.crews.Statement.{statement}
 use Rattle.instance.proofs.crews.Tie as tie
+use Rattle.instance.proofs.crews.Reads as reads
+use Rattle.instance.proofs.crews.Lts as lts
+use Rattle.instance.proofs.value_of.Reads as value-of-reads
 
-value-at-requires : tie.Need-value-at-requires
-value-at-requires c κs = search needs
+shared-slice-read-value-of : tie.Need-shared-slice-read-value-of
+shared-slice-read-value-of c = search needs
+
+value-of-requires : tie.Need-value-of-requires
+value-of-requires c κs = search needs
 
 returns : tie.Need-returns
-unfolding problemOf
-returns c = search needs
+returns c = (search crews-at, search crews-some, search crews-most)
 
 pub crews-spec : {M : Type 1} → statement M
-crews-spec = tie.close (tie.spec value-at-requires returns)
+crews-spec = tie.close (tie.spec shared-slice-read-value-of value-of-requires returns)

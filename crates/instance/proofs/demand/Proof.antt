@@ -1,7 +1,7 @@
 -- `instance::demand` meets its contract: the word at the week's demand is read.
 -- Assumes nothing.
 use borrow.Author.Needs.{needs}
-use Rattle.instance.proofs.FigureLaws.{demand-at}
+use Rattle.instance.proofs.FigureLaws.{demand-at, demand-most}
 use Rattle.instance.proofs.demand.Statement.{statement}
 use Rattle.instance.proofs.demand.Tie as tie
 
@@ -18,7 +18,7 @@ value-of-requires : tie.Need-value-of-requires
 value-of-requires c κs = search needs
 
 returns : tie.Need-returns
-returns c = (search demand-at, search needs)
+returns c = (search demand-at, search demand-most)
 
 pub demand-spec : {M : Type 1} → statement M
 demand-spec =

@@ -1,7 +1,7 @@
 -- `instance::duration` meets its contract: the word at the unit's duration is read.
 -- Assumes nothing.
 use borrow.Author.Needs.{needs}
-use Rattle.instance.proofs.FigureLaws.{duration-at}
+use Rattle.instance.proofs.FigureLaws.{duration-at, duration-some, duration-most}
 use Rattle.instance.proofs.duration.Statement.{statement}
 use Rattle.instance.proofs.duration.Tie as tie
 
@@ -24,7 +24,7 @@ value-of-requires : tie.Need-value-of-requires
 value-of-requires c κs = search needs
 
 returns : tie.Need-returns
-returns c = search duration-at
+returns c = (search duration-at, search duration-some, search duration-most)
 
 pub duration-spec : {M : Type 1} → statement M
 duration-spec =

@@ -1,7 +1,7 @@
 -- `instance::latest` meets its contract: the lower part of the unit's window is read.
 -- Assumes nothing.
 use borrow.Author.Needs.{needs}
-use Rattle.instance.proofs.FigureLaws.{latest-at}
+use Rattle.instance.proofs.FigureLaws.{latest-at, latest-some, latest-most}
 use Rattle.instance.proofs.latest.Statement.{statement}
 use Rattle.instance.proofs.latest.Tie as tie
 
@@ -24,7 +24,7 @@ value-of-requires : tie.Need-value-of-requires
 value-of-requires c κs = search needs
 
 returns : tie.Need-returns
-returns c = search latest-at
+returns c = (search latest-at, search latest-some, search latest-most)
 
 pub latest-spec : {M : Type 1} → statement M
 latest-spec =

@@ -1,7 +1,7 @@
 -- `instance::maint_cost` meets its contract: the word at the cell of the maintenance costs is read.
 -- Assumes nothing.
 use borrow.Author.Needs.{needs}
-use Rattle.instance.proofs.FigureLaws.{maint-at}
+use Rattle.instance.proofs.FigureLaws.{maint-at, maint-most}
 use Rattle.instance.proofs.maint_cost.Statement.{statement}
 use Rattle.instance.proofs.maint_cost.Tie as tie
 
@@ -21,7 +21,7 @@ value-of-requires : tie.Need-value-of-requires
 value-of-requires c κs = search needs
 
 returns : tie.Need-returns
-returns c = (search maint-at, search needs)
+returns c = (search maint-at, search maint-most)
 
 pub maint-cost-spec : {M : Type 1} → statement M
 maint-cost-spec =

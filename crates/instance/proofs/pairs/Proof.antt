@@ -1,7 +1,7 @@
 -- `instance::pairs` meets its contract: what stands between the costs and the end word.
 -- Assumes nothing.
 use borrow.Author.Needs.{needs}
-use Rattle.instance.proofs.FigureLaws.{pairs-at}
+use Rattle.instance.proofs.FigureLaws.{pairs-at, pairs-most}
 use Rattle.instance.proofs.pairs.Statement.{statement}
 use Rattle.instance.proofs.pairs.Tie as tie
 
@@ -12,7 +12,7 @@ sub-result : tie.Need-sub-result
 sub-result c = search needs
 
 returns : tie.Need-returns
-returns c = (search pairs-at, search needs)
+returns c = (search pairs-at, search pairs-most)
 
 pub pairs-spec : {M : Type 1} → statement M
 pairs-spec = tie.close (tie.spec add-result sub-result returns)

@@ -1,7 +1,7 @@
 -- `instance::partner_added` meets its contract: a pair that has unit i adds its other unit, and no other pair adds any.
 -- Assumes nothing.
 use borrow.Author.Needs.{needs}
-use Rattle.instance.proofs.PartnerLaws.{pair-a-small, pair-b-small, added-second, added-first, added-none}
+use Rattle.instance.proofs.PartnerLaws.{added-second, added-first, added-none}
 use Rattle.instance.proofs.partner_added.Statement.{statement}
 use Rattle.instance.proofs.partner_added.Tie as tie
 
@@ -12,13 +12,13 @@ pair-b-requires : tie.Need-pair-b-requires
 pair-b-requires c κs = search needs
 
 with-requires : tie.Need-with-requires
-with-requires c κs = search pair-b-small
+with-requires c κs = search needs
 
 returns : tie.Need-returns
 returns c = search added-second
 
 with-requires-2 : tie.Need-with-requires-2
-with-requires-2 c κs = search pair-a-small
+with-requires-2 c κs = search needs
 
 returns-2 : tie.Need-returns-2
 returns-2 c = search added-first

@@ -1,7 +1,7 @@
 -- `instance::running_cost` meets its contract: the word at the cell of the running costs is read.
 -- Assumes nothing.
 use borrow.Author.Needs.{needs}
-use Rattle.instance.proofs.FigureLaws.{running-at}
+use Rattle.instance.proofs.FigureLaws.{running-at, running-most}
 use Rattle.instance.proofs.running_cost.Statement.{statement}
 use Rattle.instance.proofs.running_cost.Tie as tie
 
@@ -21,7 +21,7 @@ value-of-requires : tie.Need-value-of-requires
 value-of-requires c κs = search needs
 
 returns : tie.Need-returns
-returns c = (search running-at, search needs)
+returns c = (search running-at, search running-most)
 
 pub running-cost-spec : {M : Type 1} → statement M
 running-cost-spec =
