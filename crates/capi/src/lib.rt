@@ -1,5 +1,5 @@
-// The functions that Rust and C link: numbers and slices only, no `requires`. A call that can be refused answers with the refusal's number,
-// 0 for none; a second function gives the place.
+// The functions that Rust and C link: numbers and slices only, no `requires`. A load or a read answers with the refusal's number, 0 for none;
+// a load's place is always 0, and a read's has a function of its own. The sizing figure of a refused file is 0.
 ghost use mathlib.Core.Path.{_≡_};
 ghost use lib.ListN.{length};
 ghost use Rattle.model.specs.Bytes.{loadOf, loadedInto};

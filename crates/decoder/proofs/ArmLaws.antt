@@ -6,15 +6,7 @@ use native.Mathlib.Omega.{arith}
 use borrow.Author.Tests.{le-leb, lt-leb, eq-eqb, ne-eqb}
 use lib.Arith.{lt-one}
 use Rattle.model.specs.declared.Layout.{Layout}
-use Rattle.model.specs.Words.{Laid}
 use Rattle.model.specs.Reading.{dueAt, within, windowFault, pairFault, endFault, valueFault, fitsDue, faultFor}
-use Rattle.model.proofs.ReadingLaws.{due-pair}
-
--- ---- the kind due
-
--- from the pairs on
-pub pairs-due : (l : Layout) (q : ℕ) → Laid l → l .pairs ≤ q → 10 ≡ dueAt l q
-pairs-due l q laid h = sym (due-pair l laid q h)
 
 -- ---- the number of pairs before a pair
 

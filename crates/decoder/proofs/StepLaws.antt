@@ -2,19 +2,21 @@
 -- Assumes nothing.
 use Prim.Native.Nat.{ℕ, suc, _+_, _-_, _*_, _%_, _^_, _≤_, _<_, min}
 use mathlib.Core.Path.{_≡_, refl, sym, _∙_, ap}
+use mathlib.Core.Bool.{Bool, true, false}
 use mathlib.Core.List.{List}
 use mathlib.Core.Logic.{⊎-elim}
 use native.Mathlib.Omega.{arith}
 use lib.Dec.{eqb}
 use lib.ListN.{length, getD}
-use borrow.Author.Tests.{eq-eqb, ne-eqb}
+use borrow.Author.Tests.{eq-eqb, ne-eqb, eqb-true}
 use Rattle.sums.specs.Logic.{if}
 use Rattle.model.specs.declared.Layout.{Layout}
 use Rattle.model.specs.Words.{kindOf, valueOf, kindAt, valueAt, Laid, layoutOf}
 use Rattle.model.specs.Verdict.{accepted, refused}
-use Rattle.model.specs.Reading.{dueAt, faultFor, faultAt, readFrom, readOf}
-use Rattle.model.proofs.ReadingLaws.{layout-laid, kind-fits}
-use Rattle.decoder.specs.Stages.{Onward, Passes, Clear, Passed}
+use Rattle.model.specs.Reading.{dueAt, pairFault, valueFault, faultFor, faultAt, readFrom, readOf}
+use Rattle.model.proofs.ReadingLaws.{layout-laid, due-pair, kind-fits}
+use Rattle.decoder.proofs.StageLaws.{clear-due}
+use Rattle.decoder.specs.Stages.{Onward, asPair, Passes, Clear, Passed}
 
 -- ---- the word at a place
 
@@ -40,8 +42,8 @@ onward-here ws l q k most next e on = rw (← e) on
 -- ---- the words of a stage pass
 
 -- a word without a fault that is not the end word has the kind due
-kind-due : (ws : List ℕ) (q : ℕ) → faultAt ws q ≡ 0 → (kindAt ws q ≡ 15 → ⊥) → dueAt (layoutOf ws) q ≡ kindAt ws q
-kind-due ws q clear inner =
+kind-is-due : (ws : List ℕ) (q : ℕ) → faultAt ws q ≡ 0 → (kindAt ws q ≡ 15 → ⊥) → dueAt (layoutOf ws) q ≡ kindAt ws q
+kind-is-due ws q clear inner =
     ⊎-elim
     (λ (e : kindAt ws q ≡ dueAt (layoutOf ws) q). sym e)
     (λ (e : (dueAt (layoutOf ws) q ≡ 10) × (kindAt ws q ≡ 15)). absurd (inner (e .1)))
@@ -53,7 +55,7 @@ pub stage-clear : (ws : List ℕ) (l : Layout) (q k most next f : ℕ) → l ≡
 unfolding faultAt kindAt
 stage-clear ws l q k most next f laid kind is none inner on = record {
   free = λ p a b e v.
-      let due : dueAt l q ≡ kindAt ws q = rw laid (kind-due ws q (sym is ∙ none) (λ h. inner (kind ∙ h))) in
+      let due : dueAt l q ≡ kindAt ws q = rw laid (kind-is-due ws q (sym is ∙ none) (λ h. inner (kind ∙ h))) in
       record {
         faultless = rw (e, sym laid) (on .free due p (valueAt ws (p - 1)) (valueAt ws p) a b v);
         inner = λ h. inner (kind ∙ (sym e ∙ h));
@@ -118,6 +120,50 @@ module _ (ws : List ℕ) (q : ℕ) where
     -- the reader stops at p
     pub pass-stop : q < p → p ≤ length ws → Passed ws q p
     pass-stop a b = record { forth = a; inside = b; same = same }
+
+-- ---- past the pairs
+
+-- a word of another kind is no pair
+pub as-other : (l : Layout) (p prev word k : ℕ) → k ≡ kindOf word → (k ≡ 10 → ⊥) → 1 ≡ asPair l p prev word
+unfolding asPair
+as-other l p prev word k e h = simp (← e, ne-eqb k 10 h)
+
+-- one of kind 10 has a pair's fault
+pub as-pair : (l : Layout) (p prev word k v r : ℕ) → k ≡ kindOf word → k ≡ 10 → v ≡ valueOf word → r ≡ pairFault l p prev v → r ≡ asPair l p prev word
+unfolding asPair
+as-pair l p prev word k v r e h ev t = t ∙ simp (← e, eq-eqb k 10 h, ← ev)
+
+-- a word without a fault as a pair is one
+pair-stands : (l : Layout) (p prev word : ℕ) → asPair l p prev word ≡ 0 → (kindOf word ≡ 10) × (pairFault l p prev (valueOf word) ≡ 0)
+unfolding asPair
+pair-stands l p prev word e = go (eqb (kindOf word) 10) refl e
+  where
+    go : (b : Bool) → eqb (kindOf word) 10 ≡ b → _≡_ {A = ℕ} (if b (pairFault l p prev (valueOf word)) 1) 0
+        → (kindOf word ≡ 10) × (pairFault l p prev (valueOf word) ≡ 0)
+    go true q h = (eqb-true (kindOf word) 10 q, h)
+    go false q h = absurd (omega arith)
+
+module _ (ws : List ℕ) (l : Layout) (q p prev f : ℕ) (laid : l ≡ layoutOf ws) (from : l .pairs ≤ q) (on : q < p) where
+  -- and passes
+  pair-passes : prev ≡ valueAt ws (p - 1) → asPair l p prev (getD ws p 0) ≡ 0 → Passes ws p
+  unfolding faultAt kindAt valueAt valueFault
+  pair-passes ep none =
+      let stands = pair-stands l p prev (getD ws p 0) none in
+      let due : dueAt l p ≡ 10 = due-pair l (laid-here ws l laid) p (omega arith) in
+      record {
+        faultless = rw (stands .0, ← ep, ← laid) (clear-due l p prev 10 (valueAt ws p) due (stands .1));
+        inner = λ h. let z : _≡_ {A = ℕ} 10 15 = sym (stands .0) ∙ h in absurd (omega arith);
+      }
+
+  -- one pair more
+  pub pairs-next : readFrom ws (q + 1) (length ws - (q + 1)) ≡ readFrom ws p (length ws - p) → p < length ws → prev ≡ valueAt ws (p - 1)
+      → f ≡ asPair l p prev (getD ws p 0) → f ≡ 0 → readFrom ws (q + 1) (length ws - (q + 1)) ≡ readFrom ws (p + 1) (length ws - (p + 1))
+  pairs-next same h ep is none = same ∙ step-next ws p h (pair-passes ep (sym is ∙ none))
+
+-- the word passed is the one before the next
+pub prev-next : (ws : List ℕ) (p v : ℕ) → v ≡ valueOf (getD ws p 0) → v ≡ valueAt ws (p + 1 - 1)
+unfolding valueAt
+prev-next ws p v e = let o : p + 1 - 1 ≡ p = omega arith in rw o e
 
 -- ---- the verdict from the beginning on
 

@@ -4,14 +4,20 @@ use Prim.Native.Nat.{ℕ, _+_, _-_, _≤_, _<_}
 use mathlib.Core.Path.{_≡_}
 use mathlib.Core.List.{List}
 use lib.ListN.{length}
+use lib.Dec.{eqb}
+use Rattle.sums.specs.Logic.{if}
 use Rattle.model.specs.declared.Layout.{Layout}
-use Rattle.model.specs.Words.{kindAt, valueAt}
-use Rattle.model.specs.Reading.{dueAt, faultFor, faultAt, readFrom}
+use Rattle.model.specs.Words.{kindOf, valueOf, kindAt, valueAt}
+use Rattle.model.specs.Reading.{dueAt, pairFault, faultFor, faultAt, readFrom}
 
 -- where kind k is due at place q, words of kind k and values up to most have no fault after it, up to the place next
 pub record Onward (l : Layout) (q k most next : ℕ) : Type 0 where
   pub small : most < 268435456
   pub free : dueAt l q ≡ k → (p prev v : ℕ) → q < p → p < next → v ≤ most → faultFor l p prev k v ≡ 0
+
+-- the fault of a word among the pairs, at place p after a word of value prev, unless it is the end word
+unfoldable pub asPair : Layout → ℕ → ℕ → ℕ → ℕ
+asPair l p prev word = if (eqb (kindOf word) 10) (pairFault l p prev (valueOf word)) 1
 
 -- the word at place p has no fault and is not the end word: the reader goes on behind it
 pub record Passes (ws : List ℕ) (p : ℕ) : Type 0 where

@@ -9,7 +9,7 @@ ghost use Rattle.model.specs.Bytes.{wordFrom, loadOf, loadedInto};
 ghost use Rattle.model.specs.Reading.{dueAt, within, windowFault, pairFault, endFault, valueFault, faultFor, faultAt, readOf};
 ghost use Rattle.model.specs.Prefix.{powerUp};
 ghost use Rattle.model.specs.Sizing.{sizingOf};
-ghost use Rattle.decoder.specs.Stages.{Onward, Clear, Passed};
+ghost use Rattle.decoder.specs.Stages.{Onward, asPair, Clear, Passed};
 ghost use Rattle.decoder.specs.Answers.{verdictOf, replyOf};
 
 // A plan file is accepted, or refused under a number at a place.
@@ -34,15 +34,10 @@ struct Stage {
     next: usize,
 }
 
-// The kind due at place q; 10 stands for a pair or the end word. The pairs come first: they are the most among the words that are tested
-// one by one.
+// The kind due at place q; 10 stands for a pair or the end word.
 fn due_at(l: Layout, q: usize) -> usize
-    requires { ⌜ Laid l ⌝ }
     ensures { λ r. ⌜ r ≡ dueAt l q ⌝ }
 {
-    if l.pairs <= q {
-        return 10;
-    }
     if q < 3 {
         return q + 1;
     }
@@ -55,7 +50,10 @@ fn due_at(l: Layout, q: usize) -> usize
     if q < l.runnings {
         return 8;
     }
-    9
+    if q < l.pairs {
+        return 9;
+    }
+    10
 }
 
 // Refusal 2 outside lo to hi.
@@ -154,6 +152,7 @@ fn section(most: u32, next: usize, v: usize) -> Stage
 
 // A match over the kinds and ranges of kinds selects the test of the value and the next stage.
 fn stage_of(l: Layout, q: usize, prev: usize, k: usize, v: usize) -> Stage
+    requires { ⌜ Laid l ⌝ }
     requires { ⌜ q + 1 < 2 ^ 64 ⌝ }
     ensures test { λ r. ⌜ r .fault ≡ valueFault l q prev k v ⌝ }
     ensures onward { λ r. ⌜ Onward l q k (r .most) (r .next) ⌝ }
@@ -254,6 +253,46 @@ fn pass(words: &[u32], q: usize, s: Stage) -> usize
     p
 }
 
+// The fault of a word that is to be one more pair at place p.
+fn fault_as_pair(l: Layout, p: usize, prev: usize, word: u32) -> u32
+    ensures { λ r. ⌜ r ≡ asPair l p prev word ⌝ }
+{
+    if instance::kind_of(word) != 10 {
+        return 1;
+    }
+    pair_fault(l, p, prev, instance::value_of(word))
+}
+
+// Passes the word at place q, among the pairs, and the right pairs that follow it.
+fn pass_pairs(words: &[u32], l: Layout, q: usize) -> usize
+    requires { ⌜ (l ≡ layoutOf (now words)) × (q < length (now words)) × (l .pairs ≤ q) ⌝ }
+    ensures { λ r. ⌜ Passed (now (words .entry)) q r ⌝ }
+{
+    let mut prev = instance::value_of(words[q]);
+    let mut p = q + 1;
+    while p < words.len() {
+        let word = words[p];
+        if fault_as_pair(l, p, prev, word) != 0 {
+            return p;
+        }
+        prev = instance::value_of(word);
+        p += 1;
+    }
+    p
+}
+
+// Passes the word at place q and those that follow without a fault, as far as one loop can tell.
+fn pass_stage(words: &[u32], l: Layout, q: usize, s: Stage) -> usize
+    requires { ⌜ Clear (now words) q (s .most) (s .next) ⌝ }
+    requires { ⌜ (l ≡ layoutOf (now words)) × (q < length (now words)) × (s .most < 268435456) ⌝ }
+    ensures { λ r. ⌜ Passed (now (words .entry)) q r ⌝ }
+{
+    if l.pairs <= q {
+        return pass_pairs(words, l, q);
+    }
+    pass(words, q, s)
+}
+
 // The verdict on any words as a plan file, in one pass.
 pub fn read(words: &[u32]) -> Verdict
     ensures { λ r. ⌜ verdictOf r ≡ readOf (now (words .entry)) ⌝ }
@@ -273,7 +312,7 @@ pub fn read(words: &[u32]) -> Verdict
             }
             return Verdict::Refused(7, q + 1);
         }
-        q = pass(words, q, s);
+        q = pass_stage(words, l, q, s);
     }
     Verdict::Refused(1, q)
 }

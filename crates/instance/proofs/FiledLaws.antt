@@ -13,24 +13,25 @@ use Rattle.model.proofs.ReadingLaws.{layout-laid}
 use Rattle.model.proofs.FileLaws.{complete, ranged}
 use Rattle.instance.specs.Filed.{Filed}
 
+-- weeks and units are the layout's own numbers
+weeks-laid : (ws : List ℕ) → problemOf ws .weeks ≡ layoutOf ws .weeks
+unfolding problemOf
+weeks-laid ws = refl
+
+units-laid : (ws : List ℕ) → problemOf ws .units ≡ layoutOf ws .units
+unfolding problemOf
+units-laid ws = refl
+
 module _ (ws : List ℕ) (e : readOf ws ≡ accepted) where
   abbrev l : Layout
   l = layoutOf ws
-
-  weeks-at : problemOf ws .weeks ≡ l .weeks
-  unfolding problemOf
-  weeks-at = refl
-
-  units-at : problemOf ws .units ≡ l .units
-  unfolding problemOf
-  units-at = refl
 
   filed-laid : Filed ws (layoutOf ws)
   filed-laid =
       let r = ranged ws e in
       let c = complete ws e in
-      let w = weeks-at in
-      let u = units-at in
+      let w = weeks-laid ws in
+      let u = units-laid ws in
       let wm : l .weeks ≤ 52 = omega (arith, r .weeks-most) in
       let um : l .units ≤ 16 = omega (arith, r .units-most) in
       record {
@@ -49,3 +50,11 @@ module _ (ws : List ℕ) (e : readOf ws ≡ accepted) where
 -- the file was accepted, and l was computed from it
 pub filed : (ws : List ℕ) (l : Layout) → readOf ws ≡ accepted → l ≡ layoutOf ws → Filed ws l
 filed ws l e laid = subst⁻¹ (Filed ws) laid (filed-laid ws e)
+
+-- the problem has as many weeks as the layout
+pub weeks-are : (ws : List ℕ) (l : Layout) → Filed ws l → problemOf ws .weeks ≡ l .weeks
+weeks-are ws l f = rw (f .laid) (weeks-laid ws)
+
+-- and as many units
+pub units-are : (ws : List ℕ) (l : Layout) → Filed ws l → problemOf ws .units ≡ l .units
+units-are ws l f = rw (f .laid) (units-laid ws)

@@ -8,3 +8,5 @@ pub mod FigureLaws
 pub mod TableLaws
 -- the partners of a unit, a pair at a time
 pub mod PartnerLaws
+-- sums over the units of a run
+pub mod RunLaws

@@ -28,8 +28,8 @@ unfolding problemOf
 pair-below ws l n f h = let k : n < length ws - (l .pairs + 1) = rw (f .laid) h in omega arith
 
 -- so its place is no large number
-pub pair-fits : (ws : List ℕ) (l : Layout) (n : ℕ) → Filed ws l → n < problemOf ws .pairs → Fits w64 (l .pairs + n)
-pair-fits ws l n f h = omega (arith, pair-below ws l n f h)
+pub pair-place-fits : (ws : List ℕ) (l : Layout) (n : ℕ) → Filed ws l → n < problemOf ws .pairs → Fits w64 (l .pairs + n)
+pair-place-fits ws l n f h = omega (arith, pair-below ws l n f h)
 
 -- the units in pair n's word count from 1, so the code may take 1 off
 module _ (ws : List ℕ) (l : Layout) (n r : ℕ) (f : Filed ws l) (h : n < problemOf ws .pairs) (e : r ≡ valueAt ws (l .pairs + n)) where

@@ -1,7 +1,7 @@
 -- The tables of costs: the parts of the words that the code takes, their lengths, and the cost that an entry of a week's row is.
 -- Assumes nothing.
 use Prim.Native.Nat.{ℕ, _+_, _*_, _-_, _≤_, _<_}
-use mathlib.Core.Path.{_≡_, refl, ap}
+use mathlib.Core.Path.{_≡_, refl, _∙_, ap}
 use mathlib.Core.List.{List}
 use native.Mathlib.Nat.{add-sub-cancel-left}
 use native.Mathlib.Omega.{arith}
@@ -28,7 +28,7 @@ module _ (u t s : ℕ) (maints runnings : List ℕ) where
   unfolding rowOf tableFor
   row-running n = simp (ne-eqb s 2 n, add-sub-cancel-left)
 
--- a row of a table that goes so far has a number for each unit
+-- a row of a table that goes so far has a word for each unit
 pub row-length : (u t : ℕ) (xs : List ℕ) → t * u + u ≤ length xs → length (rowOf u t xs) ≡ u
 unfolding rowOf
 row-length u t xs h = length-take-le _ _ (simp length-drop (omega arith))
@@ -36,33 +36,43 @@ row-length u t xs h = length-take-le _ _ (simp length-drop (omega arith))
 module _ (ws : List ℕ) (l : Layout) (f : Filed ws l) where
   -- ---- the tables as parts of the words
 
+  -- a table from any place on: as far as the next section, with a word for each week and unit, and whole rows
+  table-part : (from to : ℕ) → to ≡ from + l .weeks * l .units → take (to - from) (drop from ws) ≡ take (l .weeks * l .units) (drop from ws)
+  table-part from to e = let d : to - from ≡ l .weeks * l .units = omega arith in rw d
+
+  table-length : (from : ℕ) → from + l .weeks * l .units ≤ length ws → length (take (l .weeks * l .units) (drop from ws)) ≡ l .weeks * l .units
+  table-length from h = length-take-le _ _ (simp length-drop (omega arith))
+
+  table-rows : (xs : List ℕ) (t : ℕ) → length xs ≡ l .weeks * l .units → t < l .weeks → t * l .units + l .units ≤ length xs
+  table-rows xs t e ht = rw e (omega (arith, cell-below (l .weeks) (l .units) t (l .units - 1) ht (omega arith)))
+
   -- the maintenance costs go as far as the running costs
   pub maints-part : take (l .runnings - l .maints) (drop (l .maints) ws) ≡ maintsOf l ws
   unfolding maintsOf
-  maints-part = let e : l .runnings - l .maints ≡ l .weeks * l .units = omega arith in rw e
+  maints-part = table-part (l .maints) (l .runnings) (omega arith)
 
   -- the running costs as far as the pairs
   pub runnings-part : take (l .pairs - l .runnings) (drop (l .runnings) ws) ≡ runningsOf l ws
   unfolding runningsOf
-  runnings-part = let e : l .pairs - l .runnings ≡ l .weeks * l .units = omega arith in rw e
+  runnings-part = table-part (l .runnings) (l .pairs) (omega arith)
 
   -- a maintenance cost for each week and unit
   pub maints-length : length (maintsOf l ws) ≡ l .weeks * l .units
   unfolding maintsOf
-  maints-length = length-take-le _ _ (simp length-drop (omega arith))
+  maints-length = table-length (l .maints) (omega arith)
 
   -- and a running cost
   pub runnings-length : length (runningsOf l ws) ≡ l .weeks * l .units
   unfolding runningsOf
-  runnings-length = length-take-le _ _ (simp length-drop (omega arith))
+  runnings-length = table-length (l .runnings) (omega arith)
 
   -- so far goes the table of maintenance costs, in every week
   pub maints-rows : (xs : List ℕ) (t : ℕ) → xs ≡ maintsOf l ws → t < l .weeks → t * l .units + l .units ≤ length xs
-  maints-rows xs t e ht = rw (e, maints-length) (omega (arith, cell-below (l .weeks) (l .units) t (l .units - 1) ht (omega arith)))
+  maints-rows xs t e ht = table-rows xs t (ap length e ∙ maints-length) ht
 
   -- and the table of running costs
   pub runnings-rows : (xs : List ℕ) (t : ℕ) → xs ≡ runningsOf l ws → t < l .weeks → t * l .units + l .units ≤ length xs
-  runnings-rows xs t e ht = rw (e, runnings-length) (omega (arith, cell-below (l .weeks) (l .units) t (l .units - 1) ht (omega arith)))
+  runnings-rows xs t e ht = table-rows xs t (ap length e ∙ runnings-length) ht
 
   -- ---- an entry of a week's row is the problem's cost
 

@@ -1,20 +1,22 @@
-// A file's words seen as the problem they mean: where its sections begin, an accessor for each figure, and money and mass. Every accessor
-// is an equation with `problemOf`; weeks, units and pairs count from 0.
+// A file's words seen as the problem they mean: where its sections begin, an accessor for each figure, and money and mass. A figure is an
+// equation with `problemOf` and says its range; tables and rows are parts of the words. Weeks, units and pairs count from 0.
 use model::Layout;
 ghost use mathlib.Core.Path.{_≡_};
 ghost use mathlib.Core.Bool.{_||_};
 ghost use Prim.Native.Nat.{ℕ, _+_, _*_, _<_, _≤_, _^_};
 ghost use lib.ListN.{length};
-ghost use Rattle.sums.specs.NumSet.{has};
+ghost use Rattle.sums.specs.NumSet.{has, pick};
 ghost use Rattle.model.specs.Words.{kindOf, valueOf, valueAt, layoutFor, layoutOf, problemOf};
+ghost use Rattle.model.specs.Rules.{output};
+ghost use Rattle.model.specs.Commitment.{runCost};
 ghost use Rattle.model.specs.Pairs.{joins, apart};
 ghost use Rattle.instance.specs.Filed.{Filed};
 ghost use Rattle.instance.specs.Tables.{maintsOf, runningsOf, tableFor, rowOf};
 
-// Euros. A sum over costs takes and returns them, and nothing else does.
+// Euros: what a cost is, and what sums over costs take and return.
 pub struct Euro(pub u64);
 
-// Kilograms of dry matter, for sums over demands and capacities.
+// Kilograms of dry matter: what a demand or a capacity is, and what sums over outputs take and return.
 pub struct Kilo(pub u64);
 
 impl Euro {
@@ -181,6 +183,59 @@ pub fn running_cost(words: &[u32], l: Layout, t: usize, i: usize) -> Euro
     Euro(value_of(words[q]) as u64)
 }
 
+// What unit i adds to the output of a run in week t.
+fn output_part(words: &[u32], l: Layout, t: usize, run: u32, i: usize) -> Kilo
+    requires { ⌜ Filed (now words) l ⌝ }
+    requires { ⌜ i < l .units ⌝ }
+    ensures { λ r. ⌜ (r .0 ≡ pick (has run) (problemOf (now (words .entry)) .capacity t) i) × (r .0 ≤ 1000000) ⌝ }
+{
+    if sets::has(run, i) {
+        return capacity(words, l, t, i);
+    }
+    Kilo(0)
+}
+
+// What a run gives in week t.
+pub fn run_output(words: &[u32], l: Layout, t: usize, run: u32) -> Kilo
+    requires { ⌜ Filed (now words) l ⌝ }
+    ensures { λ r. ⌜ (r .0 ≡ output (problemOf (now (words .entry))) t (has run)) × (r .0 ≤ 16000000) ⌝ }
+{
+    let units = l.units;
+    let mut sum = Kilo(0);
+    for i in 0..units {
+        let more = output_part(words, l, t, run, i);
+        sum = sum.plus(more);
+    }
+    sum
+}
+
+// What unit i adds to the cost of a run in week t.
+fn cost_part(words: &[u32], l: Layout, t: usize, run: u32, i: usize) -> Euro
+    requires { ⌜ Filed (now words) l ⌝ }
+    requires { ⌜ (t < l .weeks) × (i < l .units) ⌝ }
+    ensures { λ r. ⌜ (r .0 ≡ pick (has run) (problemOf (now (words .entry)) .running t) i) × (r .0 ≤ 250000) ⌝ }
+{
+    if sets::has(run, i) {
+        return running_cost(words, l, t, i);
+    }
+    Euro(0)
+}
+
+// What a run costs in week t.
+pub fn run_cost(words: &[u32], l: Layout, t: usize, run: u32) -> Euro
+    requires { ⌜ Filed (now words) l ⌝ }
+    requires { ⌜ t < l .weeks ⌝ }
+    ensures { λ r. ⌜ (r .0 ≡ runCost (problemOf (now (words .entry))) t run) × (r .0 ≤ 4000000) ⌝ }
+{
+    let units = l.units;
+    let mut sum = Euro(0);
+    for i in 0..units {
+        let more = cost_part(words, l, t, run, i);
+        sum = sum.plus(more);
+    }
+    sum
+}
+
 // The table of maintenance costs.
 pub fn maint_table(words: &[u32], l: Layout) -> &[u32]
     requires { ⌜ Filed (now words) l ⌝ }
@@ -201,7 +256,8 @@ pub fn running_table(words: &[u32], l: Layout) -> &[u32]
     &words[from..to]
 }
 
-// The week's row of the table that a cell's state names, with a number for each of u units.
+// The week's row of the table that a cell's state names, a word for each of u units: maintenance costs for MAINT, running costs for ON. OFF
+// costs nothing, and its row is not to be read.
 pub fn cost_row<'a>(
     maints: &'a [u32],
     runnings: &'a [u32],

@@ -16,6 +16,7 @@ use Rattle.sums.proofs.LogicLaws.{true-false, and-left, and-right}
 use Rattle.model.specs.declared.Layout.{Layout}
 use Rattle.model.specs.Words.{kindAt, valueAt, layoutOf, layoutFor, Laid}
 use Rattle.model.specs.Verdict.{accepted, refused}
+use Rattle.model.specs.Ranges.{PairFits}
 use Rattle.model.specs.Reading.{dueAt, fitsDue, within, windowFault, pairFault, endFault, valueFault, faultFor, faultAt, readFrom, readOf}
 
 -- ---- the verdict
@@ -129,15 +130,7 @@ window-fits l v e =
       in-season = leb-true (v % 64) (l .weeks) (h .3);
     }
 
--- the pair v at place q, after a word of value prev: 1 ≤ a < b ≤ U, above the pair before it, one of the first 120
-pub record PairFits (l : Layout) (q prev v : ℕ) : Type 0 where
-  pub from-one : 1 ≤ v / 32
-  pub order : v / 32 < v % 32
-  pub in-units : v % 32 ≤ l .units
-  pub rises : l .pairs < q → prev < v
-  pub few : q < l .pairs + 120
-
--- a pair without a fault is so
+-- a pair without a fault is legal, rises, and is one of the first 120
 pub pair-fits : (l : Layout) (q prev v : ℕ) → pairFault l q prev v ≡ 0 → PairFits l q prev v
 unfolding pairFault
 pair-fits l q prev v e =

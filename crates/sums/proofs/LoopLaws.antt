@@ -3,16 +3,43 @@
 -- Assumes nothing.
 use Prim.Native.Nat.{ℕ, suc, _+_, _≤_, _<_}
 use mathlib.Core.Path.{_≡_, refl, _∙_, ap}
-use mathlib.Core.Bool.{Bool, _||_}
+use mathlib.Core.Bool.{Bool, true, false, _||_}
 use mathlib.Core.List.{List, [], _∷_, _++_, append-assoc}
 use native.Mathlib.Numerals.{add-one}
 use native.Mathlib.Omega.{arith}
 use lib.ListN.{length, getD, set, drop}
 use lib.Seq.{drop-cons, set-at}
+use Rattle.sums.specs.Sum.{sumTo}
 use Rattle.sums.specs.Range.{someTo, listTo}
-use Rattle.sums.specs.NumSet.{has}
+use Rattle.sums.specs.NumSet.{NumSet, has, pick}
 use Rattle.sums.proofs.RangeLaws.{list-length}
 use Rattle.sums.proofs.NumSetLaws.{zero-has}
+
+-- ---- a sum
+
+-- nothing yet
+pub sum-start : (f : ℕ → ℕ) → 0 ≡ sumTo 0 f
+unfolding sumTo
+sum-start f = refl
+
+-- one more term
+pub sum-next : (f : ℕ → ℕ) (k a v r : ℕ) → a ≡ sumTo k f → v ≡ f k → r ≡ a + v → r ≡ sumTo (k + 1) f
+unfolding sumTo
+sum-next f k a v r e is t = rw (add-one, ← e, ← is) t
+
+-- the term of a number that a set has, by the test that the code makes
+pub pick-in : (p : NumSet) (f : ℕ → ℕ) (k r : ℕ) (b : Bool) → b ≡ p k → b ≡ true → r ≡ f k → r ≡ pick p f k
+unfolding pick
+pick-in p f k r b is e t = rw (← is, e) t
+
+-- and of one that it lacks
+pub pick-out : (p : NumSet) (f : ℕ → ℕ) (k : ℕ) (b : Bool) → b ≡ p k → b ≡ false → 0 ≡ pick p f k
+unfolding pick
+pick-out p f k b is e = rw (← is, e)
+
+-- all terms
+pub sum-ended : (f : ℕ → ℕ) (k n a : ℕ) → a ≡ sumTo k f → k ≤ n → n ≤ k → a ≡ sumTo n f
+sum-ended f k n a e h m = let o : k ≡ n = omega arith in rw o at e
 
 -- ---- a test of some number
 

@@ -1,6 +1,7 @@
 //! The comparison: the proved reader's verdict held against the reference's, number and place.
 
 use reference::{kind_of, read, value_of, Refusal};
+use std::collections::BTreeSet;
 use std::fmt::Arguments;
 
 /// What a reader says of a file: accepted, or the refusal.
@@ -14,12 +15,13 @@ pub fn proved_verdict(words: &[u32]) -> Verdict {
     })
 }
 
-/// The verdicts on which both readers agreed, counted by refusal number. A test that asserts on
-/// the counts cannot pass by comparing nothing.
+/// The verdicts on which both readers agreed, counted by refusal number, and the places of the
+/// refusals. A test that asserts on them cannot pass by comparing nothing.
 #[derive(Default)]
 pub struct Counts {
     accepted: usize,
     refused: [usize; 8],
+    places: BTreeSet<usize>,
 }
 
 impl Counts {
@@ -39,7 +41,10 @@ impl Counts {
                 assert_eq!(place, 0, "accepted has place 0, on {origin}");
                 self.accepted += 1;
             }
-            Err(refusal) => self.refused[refusal.number as usize] += 1,
+            Err(refusal) => {
+                self.refused[refusal.number as usize] += 1;
+                self.places.insert(refusal.place);
+            }
         }
         expected
     }
@@ -59,13 +64,19 @@ impl Counts {
         (0..8).filter(|&number| self.refused[number] > 0).collect()
     }
 
+    /// At how many different places files were refused.
+    pub fn places(&self) -> usize {
+        self.places.len()
+    }
+
     /// Prints the counts, for those who run the tests with their output shown.
     pub fn report(&self, what: &str) {
         println!(
-            "{what}: {} files, {} accepted, refusals 1 to 7: {:?}",
+            "{what}: {} files, {} accepted, refusals 1 to 7: {:?}, places: {}",
             self.total(),
             self.accepted,
-            &self.refused[1..]
+            &self.refused[1..],
+            self.places()
         );
     }
 }

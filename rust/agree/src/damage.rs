@@ -1,4 +1,5 @@
-//! Ways to damage a file: one word replaced by each telling one, or several words edited at random.
+//! Ways to damage a file: one word replaced by each telling one, several words edited at random,
+//! or every word random from some place on.
 
 use crate::Random;
 use reference::{kind_of, value_of, word, Plan};
@@ -97,6 +98,28 @@ pub fn edited(words: &[u32], plan: &Plan, random: &mut Random) -> Vec<u32> {
         words = recounted(words);
     }
     words
+}
+
+/// The words before `place`, and then random ones, at most 59, of which the first few often go on
+/// as a legal file does.
+pub fn random_from(words: &[u32], place: usize, plan: &Plan, random: &mut Random) -> Vec<u32> {
+    let mut damaged = words[..place].to_vec();
+    for _ in 0..random.place(60) {
+        damaged.push(plausible(words, damaged.len(), plan, random));
+    }
+    damaged
+}
+
+/// Any word; a word of the file, from any place; or one of the kind that the file has at `place`
+/// (past its end, the last), with any value or, half the time, one in or just outside its range.
+fn plausible(words: &[u32], place: usize, plan: &Plan, random: &mut Random) -> u32 {
+    let due = words[place.min(words.len() - 1)];
+    match random.within(0, 5) {
+        0 => random.word(),
+        1 => word(kind_of(due), random.within(0, HIGHEST)),
+        2 => words[random.place(words.len())],
+        _ => near(due, plan, random),
+    }
 }
 
 fn edit(words: &mut Vec<u32>, plan: &Plan, random: &mut Random) {

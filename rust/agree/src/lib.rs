@@ -7,6 +7,6 @@ mod plans;
 mod random;
 
 pub use compare::{proved_verdict, Counts, Verdict};
-pub use damage::{edited, near, recounted, replacements};
+pub use damage::{edited, near, random_from, recounted, replacements};
 pub use plans::{all_pairs, border_plans, largest, random_plan, small_plans, smallest};
 pub use random::Random;

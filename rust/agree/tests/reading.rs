@@ -2,8 +2,8 @@
 //! legal, damaged in one word or several, cut short, too long, and random.
 
 use agree::{
-    all_pairs, border_plans, edited, largest, near, random_plan, recounted, replacements,
-    small_plans, smallest, Counts, Random, Verdict,
+    all_pairs, border_plans, edited, largest, near, random_from, random_plan, recounted,
+    replacements, small_plans, smallest, Counts, Random, Verdict,
 };
 use reference::{encode, example_a_words, word, Plan, Refusal};
 
@@ -31,13 +31,6 @@ fn sweep_places(plan: &Plan, places: impl Iterator<Item = usize>, counts: &mut C
             let _ = counts.agreed(&damaged, format_args!("word {place} replaced by {new:#x}"));
         }
         damaged[place] = words[place];
-    }
-}
-
-fn sweep_every_word_of_small_files(counts: &mut Counts) {
-    for plan in small_plans() {
-        let length = encode(&plan).len();
-        sweep_places(&plan, 0..length, counts);
     }
 }
 
@@ -204,7 +197,10 @@ fn the_first_fault_decides() {
 #[test]
 fn every_single_word_damage_of_small_files_agrees() {
     let mut counts = Counts::default();
-    sweep_every_word_of_small_files(&mut counts);
+    for plan in small_plans() {
+        let length = encode(&plan).len();
+        sweep_places(&plan, 0..length, &mut counts);
+    }
     assert_eq!(counts.numbers(), [1, 2, 3, 4, 6]);
     assert!(counts.accepted() > 1000 && counts.total() > 50_000);
     counts.report("single word, small files");
@@ -318,14 +314,31 @@ fn with_inserted(words: &[u32], place: usize, new: u32) -> Vec<u32> {
     recounted(longer)
 }
 
+/// Nearly every such list is refused at its first word; the next test gets further.
 #[test]
 fn lists_of_any_words_agree() {
-    let counts = sweep_seeds(5000, |random| {
+    let counts = sweep_seeds(500, |random| {
         let length = random.place(60);
         random.words(length)
     });
-    assert_eq!(counts.total(), 5000);
+    assert_eq!(counts.numbers(), [1, 2]);
+    assert_eq!(counts.accepted(), 0);
     counts.report("any words");
+}
+
+/// The beginning is of any length, from no word to the whole file, so the first word at fault is
+/// anywhere: of more than 100 places one at least is beyond the first 100 words.
+#[test]
+fn random_words_after_a_legal_beginning_agree() {
+    let counts = sweep_seeds(10_000, |random| {
+        let plan = random_plan(random, 6, 6);
+        let words = encode(&plan);
+        let place = random.place(words.len() + 1);
+        random_from(&words, place, &plan, random)
+    });
+    assert_eq!(counts.numbers(), [1, 2, 3, 4, 6, 7]);
+    assert!(counts.places() > 100);
+    counts.report("random words after a legal beginning");
 }
 
 /// The kinds of a legal file, with values that are legal for the most part and else near it.
@@ -355,17 +368,4 @@ fn legal_files_with_several_words_edited_agree() {
     assert_eq!(counts.numbers(), [1, 2, 3, 4, 6, 7]);
     assert!(counts.accepted() > 100);
     counts.report("several words edited");
-}
-
-/// What the sweeps over damaged files are worth: together they meet every cause, and acceptance.
-#[test]
-fn damaged_files_meet_every_cause_but_5() {
-    let mut counts = Counts::default();
-    sweep_every_word_of_small_files(&mut counts);
-    for plan in small_plans() {
-        sweep_truncations(&plan, &mut counts);
-        sweep_extensions(&plan, &mut counts);
-    }
-    assert_eq!(counts.numbers(), [1, 2, 3, 4, 6, 7]);
-    assert!(counts.accepted() > 0);
 }

@@ -1,6 +1,7 @@
 //! Times the proved code beside plain Rust twins on the same inputs, in one run. The figures are
 //! for the change log; no test depends on them.
 
+mod buffers;
 mod plain;
 mod read;
 mod table;

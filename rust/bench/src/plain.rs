@@ -107,7 +107,7 @@ fn window(words: &[u32], place: usize, weeks: u32) -> Result<(), Refusal> {
 }
 
 /// The pairs, up to the first word of another kind; the place after them. Legal pairs that rise
-/// are at most 120, so refusal 5 needs no test.
+/// are at most 120, so refusal 5 never arises; it has its test since it has one in document 01.
 fn pairs(words: &[u32], start: usize, units: u32) -> Result<usize, Refusal> {
     let mut before = 0;
     for (place, word) in (start..).zip(&words[start..]) {
@@ -118,6 +118,9 @@ fn pairs(words: &[u32], start: usize, units: u32) -> Result<usize, Refusal> {
         let (a, b) = (value / 32, value % 32);
         if a < 1 || a >= b || b > units || value <= before {
             return refuse(4, place);
+        }
+        if place - start == 120 {
+            return refuse(5, place);
         }
         before = value;
     }

@@ -1,49 +1,45 @@
 //! The reader and the loader on the longest legal file, whole and with a fault near its end.
 
-use crate::timing::{Times, ROUNDS};
+use crate::buffers::Buffers;
+use crate::timing::Times;
 use crate::{plain, table};
 use agree::{largest, proved_verdict, replacements, small_plans};
 use reference::{bytes_of, encode, word};
+use std::cell::RefCell;
 use std::hint::black_box;
 
 /// Holds the plain twins against the reference, times both sides, prints the table.
 pub fn run() {
     let cases = cases();
     check_plain(&cases);
-    let bytes = bytes_of(&cases[0].1);
-    let mut lent = [vec![0; cases[0].1.len()], vec![0; cases[0].1.len()]];
-    let mut reading: Vec<Times> = cases.iter().map(|_| Times::default()).collect();
-    let mut loading = Times::default();
-    for round in 0..ROUNDS {
-        for ((_, words), times) in cases.iter().zip(&mut reading) {
-            time_read(times, round, words);
-        }
-        time_load(&mut loading, round, &bytes, &mut lent);
-    }
     table::heading();
-    for ((case, words), times) in cases.iter().zip(&reading) {
-        table::row(case, words.len(), times);
+    for (case, words) in &cases {
+        table::row(case, words.len(), &time_read(words));
     }
-    table::row("bytes to words", bytes.len() / 4, &loading);
+    let whole = &cases[0].1;
+    table::row("bytes to words", whole.len(), &time_load(&bytes_of(whole)));
     println!();
     println!("A refused file takes two calls of the proved reader: for the number, for the place.");
-    println!("Bytes to words: the lent words are not cleared between calls.");
+    println!("Bytes to words: both sides write the same lent words, not cleared between calls.");
+    println!("Where the linker puts the proved reader's code can change its figures by a third.");
 }
 
-fn time_read(times: &mut Times, round: usize, words: &[u32]) {
-    times.round(
-        round,
+fn time_read(words: &[u32]) -> Times {
+    Times::in_turns(
         || ffi::read(black_box(words)),
         || plain::read(black_box(words)),
-    );
+    )
 }
 
-fn time_load(times: &mut Times, round: usize, bytes: &[u8], [one, other]: &mut [Vec<u32>; 2]) {
-    times.round(
-        round,
-        || ffi::load(black_box(bytes), black_box(one)),
-        || plain::load(black_box(bytes), black_box(other)),
-    );
+/// Both sides take the same bytes and write the same lent words.
+fn time_load(bytes: &[u8]) -> Times {
+    let mut buffers = Buffers::with(bytes);
+    let (bytes, words) = buffers.split(bytes.len() / 4);
+    let lent = RefCell::new(words);
+    Times::in_turns(
+        || ffi::load(black_box(bytes), black_box(&mut lent.borrow_mut())),
+        || plain::load(black_box(bytes), black_box(&mut lent.borrow_mut())),
+    )
 }
 
 /// The longest legal file and five damaged versions, named; the legal one first.

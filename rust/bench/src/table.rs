@@ -10,7 +10,9 @@ pub fn heading() {
         "release"
     };
     println!("machine: {}", machine());
-    println!("build: {build}; medians of {ROUNDS} interleaved rounds of {CALLS} calls");
+    println!(
+        "build: {build}; medians, the ratios' too, of {ROUNDS} rounds of {CALLS} calls in turns"
+    );
     println!();
     println!(
         "{:<34} {:>6} {:>11} {:>11} {:>13}",
@@ -21,18 +23,12 @@ pub fn heading() {
 /// Prints one case.
 pub fn row(case: &str, words: usize, times: &Times) {
     let (proved, plain) = times.medians();
-    let ratio = proved / plain;
+    let ratio = times.ratio();
     println!("{case:<34} {words:>6} {proved:>11.0} {plain:>11.0} {ratio:>13.2}");
 }
 
+/// The architecture, and how many threads run at once, 0 where that is not known.
 fn machine() -> String {
-    let model = std::fs::read_to_string("/proc/cpuinfo")
-        .ok()
-        .and_then(|text| {
-            let line = text.lines().find(|line| line.starts_with("model name"))?;
-            Some(line.split_once(':')?.1.trim().to_string())
-        });
-    let cores = std::thread::available_parallelism().map_or(0, |cores| cores.get());
-    let model = model.unwrap_or_else(|| "unknown processor".to_string());
-    format!("{model}, {cores} cores")
+    let threads = std::thread::available_parallelism().map_or(0, |threads| threads.get());
+    format!("{}, {threads} threads", std::env::consts::ARCH)
 }

@@ -16,25 +16,36 @@ pub struct Times {
 }
 
 impl Times {
-    /// One round: both sides, the one that goes first changing from round to round.
-    pub fn round<A, B>(
-        &mut self,
-        round: usize,
-        mut proved: impl FnMut() -> A,
-        mut plain: impl FnMut() -> B,
-    ) {
-        if round.is_multiple_of(2) {
-            self.proved.push(nanoseconds(&mut proved));
-            self.plain.push(nanoseconds(&mut plain));
-        } else {
-            self.plain.push(nanoseconds(&mut plain));
-            self.proved.push(nanoseconds(&mut proved));
+    /// Times both sides of a case in turns, the one that goes first changing from round to round.
+    ///
+    /// The rounds of a case follow one another at once. A processor may switch its wide registers
+    /// off when nothing has used them for some 0.7 ms, and code that then does is slow for longer
+    /// than a round takes; the plain loader's copy is such code, the proved loader's is not.
+    pub fn in_turns<A, B>(mut proved: impl FnMut() -> A, mut plain: impl FnMut() -> B) -> Self {
+        let mut times = Times::default();
+        for round in 0..ROUNDS {
+            if round.is_multiple_of(2) {
+                times.proved.push(nanoseconds(&mut proved));
+                times.plain.push(nanoseconds(&mut plain));
+            } else {
+                times.plain.push(nanoseconds(&mut plain));
+                times.proved.push(nanoseconds(&mut proved));
+            }
         }
+        times
     }
 
     /// The medians over the rounds: proved, plain.
     pub fn medians(&self) -> (f64, f64) {
         (median(&self.proved), median(&self.plain))
+    }
+
+    /// The median over the rounds of proved to plain. Not the ratio of the medians: where the
+    /// machine slows down during a case, one of them may be from before and the other from after.
+    pub fn ratio(&self) -> f64 {
+        let rounds = self.proved.iter().zip(&self.plain);
+        let ratios: Vec<f64> = rounds.map(|(proved, plain)| proved / plain).collect();
+        median(&ratios)
     }
 }
 

@@ -1,6 +1,5 @@
--- `decoder::due_at` meets its contract: the definition's chain of tests, the pairs first.
+-- `decoder::due_at` meets its contract: the definition's chain of tests.
 -- Assumes nothing.
-use Rattle.decoder.proofs.ArmLaws.{pairs-due}
 use Rattle.model.specs.Reading.{dueAt}
 use Rattle.sums.proofs.Tests.{tests}
 use borrow.Author.Needs.{needs}
@@ -9,22 +8,23 @@ use Rattle.decoder.proofs.due_at.Tie as tie
 use Rattle.decoder.proofs.due_at.Reads as reads
 use Rattle.decoder.proofs.due_at.Lts as lts
 
-returns : tie.Need-returns
-returns c = search pairs-due
-
 add-result : tie.Need-add-result
 add-result c = search needs
+
+returns : tie.Need-returns
+unfolding dueAt
+returns c = search tests
 
 returns-2 : tie.Need-returns-2
 unfolding dueAt
 returns-2 c = search tests
 
+add-result-2 : tie.Need-add-result-2
+add-result-2 c = search needs
+
 returns-3 : tie.Need-returns-3
 unfolding dueAt
 returns-3 c = search tests
-
-add-result-2 : tie.Need-add-result-2
-add-result-2 c = search needs
 
 returns-4 : tie.Need-returns-4
 unfolding dueAt
@@ -41,4 +41,4 @@ returns-6 c = search tests
 pub due-at-spec : {M : Type 1} → statement M
 due-at-spec =
     tie.close
-    (tie.spec returns add-result returns-2 returns-3 add-result-2 returns-4 returns-5 returns-6)
+    (tie.spec add-result returns returns-2 add-result-2 returns-3 returns-4 returns-5 returns-6)

@@ -10,7 +10,7 @@ use Rattle.decoder.proofs.read.Statement.{statement}
 use Rattle.decoder.proofs.read.Tie as tie
 use Rattle.decoder.proofs.read.Reads as reads
 use Rattle.decoder.proofs.read.Lts as lts
-use Rattle.decoder.proofs.pass.Reads as pass-reads
+use Rattle.decoder.proofs.pass_stage.Reads as pass-stage-reads
 use Rattle.decoder.proofs.stage_at.Reads as stage-at-reads
 use Rattle.instance.proofs.kind_of.Reads as kind-of-reads
 use Rattle.instance.proofs.layout_of.Reads as layout-of-reads
@@ -54,8 +54,8 @@ add-t11 c = search needs
 returns-3 : tie.Need-returns-3 Inv-loop μ-loop
 returns-3 c = search read-more
 
-pass-requires : tie.Need-pass-requires Inv-loop μ-loop
-pass-requires c κs = (search stage-clear, search needs)
+pass-stage-requires : tie.Need-pass-stage-requires Inv-loop μ-loop
+pass-stage-requires c κs = (search stage-clear, search needs)
 
 loop-less : tie.Need-loop-less Inv-loop μ-loop
 loop-less c = search needs
@@ -83,7 +83,7 @@ read-spec =
     returns-2
     add-t11
     returns-3
-    pass-requires
+    pass-stage-requires
     loop-less
     loop-again
     returns-4)

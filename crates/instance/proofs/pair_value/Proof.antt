@@ -2,12 +2,12 @@
 -- Assumes nothing.
 use borrow.Author.Needs.{needs}
 use Rattle.model.specs.Words.{valueAt}
-use Rattle.instance.proofs.PlaceLaws.{pair-below, pair-fits}
+use Rattle.instance.proofs.PlaceLaws.{pair-below, pair-place-fits}
 use Rattle.instance.proofs.pair_value.Statement.{statement}
 use Rattle.instance.proofs.pair_value.Tie as tie
 
 add-q : tie.Need-add-q
-add-q c = search pair-fits
+add-q c = search pair-place-fits
 
 mul-value-of : tie.Need-mul-value-of
 mul-value-of c = search (needs, pair-below)

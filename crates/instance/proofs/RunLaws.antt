@@ -1,0 +1,23 @@
+-- Sums over the units of a run, as the loops end.
+-- Assumes nothing.
+use Prim.Native.Nat.{ℕ, _≤_}
+use mathlib.Core.Path.{_≡_}
+use mathlib.Core.List.{List}
+use Rattle.sums.specs.Sum.{sumTo}
+use Rattle.sums.specs.NumSet.{has, pick}
+use Rattle.sums.proofs.LoopLaws.{sum-ended}
+use Rattle.model.specs.declared.Layout.{Layout}
+use Rattle.model.specs.Words.{problemOf}
+use Rattle.model.specs.Rules.{output}
+use Rattle.model.specs.Commitment.{runCost}
+use Rattle.instance.specs.Filed.{Filed}
+use Rattle.instance.proofs.FiledLaws.{units-are}
+
+module _ (ws : List ℕ) (l : Layout) (t run k a : ℕ) (f : Filed ws l) (h : k ≤ l .units) (g : l .units ≤ k) where
+  pub output-ended : a ≡ sumTo k (pick (has run) (problemOf ws .capacity t)) → a ≡ output (problemOf ws) t (has run)
+  unfolding output
+  output-ended e = rw (units-are ws l f) (sum-ended (pick (has run) (problemOf ws .capacity t)) k (l .units) a e h g)
+
+  pub cost-ended : a ≡ sumTo k (pick (has run) (problemOf ws .running t)) → a ≡ runCost (problemOf ws) t run
+  unfolding runCost
+  cost-ended e = rw (units-are ws l f) (sum-ended (pick (has run) (problemOf ws .running t)) k (l .units) a e h g)

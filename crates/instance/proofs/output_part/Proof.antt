@@ -1,0 +1,25 @@
+-- `instance::output_part` meets its contract: the capacity of a unit in the run, 0 for another.
+-- Assumes nothing.
+use Rattle.sums.proofs.LoopLaws.{pick-in, pick-out}
+use borrow.Author.Needs.{needs}
+use Rattle.instance.proofs.output_part.Statement.{statement}
+use Rattle.instance.proofs.output_part.Tie as tie
+use Rattle.instance.proofs.output_part.Reads as reads
+use Rattle.instance.proofs.output_part.Lts as lts
+use Rattle.instance.proofs.capacity.Reads as capacity-reads
+use Rattle.sets.proofs.has.Reads as has-reads
+
+has-requires : tie.Need-has-requires
+has-requires c κs = search needs
+
+capacity-requires : tie.Need-capacity-requires
+capacity-requires c κs = search needs
+
+returns : tie.Need-returns
+returns c = (search pick-in, search needs)
+
+returns-2 : tie.Need-returns-2
+returns-2 c = (search pick-out, search needs)
+
+pub output-part-spec : {M : Type 1} → statement M
+output-part-spec = tie.close (tie.spec has-requires capacity-requires returns returns-2)
