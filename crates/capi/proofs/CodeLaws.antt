@@ -1,8 +1,9 @@
 -- The numbers of answers, case by case, and of answers that are equal.
 -- Assumes nothing.
-use Prim.Native.Nat.{ℕ}
-use mathlib.Core.Path.{_≡_, _∙_, ap}
+use Prim.Native.Nat.{ℕ, _+_}
+use mathlib.Core.Path.{_≡_, _∙_, ap, ap₂}
 use mathlib.Core.List.{List}
+use native.Mathlib.Omega.{arith}
 use Rattle.model.specs.Bytes.{loadedInto}
 use Rattle.model.specs.Verdict as model
 use Rattle.decoder.specs.Answers.{verdictOf, replyOf}
@@ -10,7 +11,15 @@ use Rattle.decoder.specs.declared.Verdict.{Verdict}
 use Rattle.decoder.specs.declared.Verdict.the-variants.{Accepted, Refused}
 use Rattle.decoder.specs.declared.Reply.{Reply}
 use Rattle.decoder.specs.declared.Reply.the-variants.{Number, Denied}
-use Rattle.capi.specs.Codes.{refusedBy, refusedAt, deniedBy, given}
+use Rattle.model.specs.Problem.{Problem}
+use Rattle.model.specs.Schedule.{Schedule}
+use Rattle.model.specs.Drawing.{drawnInto}
+use Rattle.model.specs.Judgement as judged
+use Rattle.model.proofs.BoundLaws.{Bounded, judge-bounded}
+use Rattle.checker.specs.Answers.{judgementOf}
+use Rattle.checker.specs.declared.Judgement.{Judgement}
+use Rattle.checker.specs.declared.Judgement.the-variants.{Sound, Breaks, Rejected}
+use Rattle.capi.specs.Codes.{refusedBy, refusedAt, deniedBy, given, judgedCode, judgedPlace}
 
 -- ---- by cases
 
@@ -55,6 +64,36 @@ module _ (r : Reply) where
 
 pub ruleset replies = (number-by, number-given, denied-by, denied-given)
 
+module _ (j : Judgement) where
+  module _ (c : ℕ) (e : j ≡ Sound c) where
+    pub sound-code : c ≡ judgedCode (judgementOf j)
+    unfolding judgedCode
+    sound-code = rw e
+
+    pub sound-place : 0 ≡ judgedPlace (judgementOf j)
+    unfolding judgedPlace
+    sound-place = rw e
+
+  module _ (n : ℕ) (e : j ≡ Breaks n) where
+    pub breaks-code : 4294967296 + n ≡ judgedCode (judgementOf j)
+    unfolding judgedCode
+    breaks-code = rw e
+
+    pub breaks-place : 0 ≡ judgedPlace (judgementOf j)
+    unfolding judgedPlace
+    breaks-place = rw e
+
+  module _ (number place : ℕ) (e : j ≡ Rejected number place) where
+    pub rejected-code : 8589934592 + number ≡ judgedCode (judgementOf j)
+    unfolding judgedCode
+    rejected-code = rw e
+
+    pub rejected-place : place ≡ judgedPlace (judgementOf j)
+    unfolding judgedPlace
+    rejected-place = rw e
+
+pub ruleset judgements = (sound-code, sound-place, breaks-code, breaks-place, rejected-code, rejected-place)
+
 -- ---- the same answer has the same numbers
 
 module _ (n : ℕ) (a b : model.Verdict) (e : a ≡ b) where
@@ -71,8 +110,40 @@ module _ (n : ℕ) (a b : model.Reply) (e : a ≡ b) where
   pub reply-given : n ≡ given a → n ≡ given b
   reply-given h = h ∙ ap given e
 
--- and leaves the same words
+module _ (n : ℕ) (a b : judged.Judgement) (e : a ≡ b) where
+  pub judgement-code : n ≡ judgedCode a → n ≡ judgedCode b
+  judgement-code h = h ∙ ap judgedCode e
+
+  pub judgement-place : n ≡ judgedPlace a → n ≡ judgedPlace b
+  judgement-place h = h ∙ ap judgedPlace e
+
+-- and leaves the same bytes
+pub verdict-into : (a b : model.Verdict) (p : Problem) (s : Schedule) (bs r : List ℕ) → a ≡ b → r ≡ drawnInto a p s bs → r ≡ drawnInto b p s bs
+verdict-into a b p s bs r e h = h ∙ ap (λ (x : model.Verdict). drawnInto x p s bs) e
+
+-- and the same words
 pub reply-into : (a b : model.Reply) (bs ws r : List ℕ) → a ≡ b → r ≡ loadedInto a bs ws → r ≡ loadedInto b bs ws
 reply-into a b bs ws r e h = h ∙ ap (λ (x : model.Reply). loadedInto x bs ws) e
 
-pub ruleset codes = (verdict-by, verdict-at, reply-by, reply-given, reply-into)
+pub ruleset codes =
+    (verdict-by, verdict-at, reply-by, reply-given, reply-into, judgement-code, judgement-place, verdict-into)
+
+-- ---- a judgement's number and place tell it
+
+-- for judgements whose numbers are no larger than the judge's
+codes-tell : (a b : judged.Judgement) → Bounded a → Bounded b → judgedCode a ≡ judgedCode b → judgedPlace a ≡ judgedPlace b → a ≡ b
+unfolding judgedCode judgedPlace
+codes-tell (judged.soundAt c) (judged.soundAt d) h g e q = ap judged.soundAt e
+codes-tell (judged.soundAt c) (judged.breaks n) h g e q = absurd (omega arith)
+codes-tell (judged.soundAt c) (judged.rejected n s) h g e q = absurd (omega arith)
+codes-tell (judged.breaks m) (judged.soundAt d) h g e q = absurd (omega arith)
+codes-tell (judged.breaks m) (judged.breaks n) h g e q = ap judged.breaks (omega arith)
+codes-tell (judged.breaks m) (judged.rejected n s) h g e q = absurd (omega arith)
+codes-tell (judged.rejected m r) (judged.soundAt d) h g e q = absurd (omega arith)
+codes-tell (judged.rejected m r) (judged.breaks n) h g e q = absurd (omega arith)
+codes-tell (judged.rejected m r) (judged.rejected n s) h g e q = ap₂ judged.rejected (omega arith) q
+
+-- so two answers of the judge with the same number and place are the same
+pub answers-tell : (ws g vs h : List ℕ) → judgedCode (judged.judgeOf ws g) ≡ judgedCode (judged.judgeOf vs h)
+    → judgedPlace (judged.judgeOf ws g) ≡ judgedPlace (judged.judgeOf vs h) → judged.judgeOf ws g ≡ judged.judgeOf vs h
+answers-tell ws g vs h = codes-tell (judged.judgeOf ws g) (judged.judgeOf vs h) (judge-bounded ws g) (judge-bounded vs h)

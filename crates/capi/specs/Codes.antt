@@ -1,7 +1,8 @@
 -- Answers as plain numbers, case by case, for callers that have no enums.
 -- Assumes nothing.
-use Prim.Native.Nat.{ℕ}
+use Prim.Native.Nat.{ℕ, _+_}
 use Rattle.model.specs.Verdict.{Verdict, accepted, refused, Reply, gives, denies}
+use Rattle.model.specs.Judgement.{Judgement, soundAt, breaks, rejected}
 
 -- the refusal's number, 0 where the input is accepted
 unfoldable pub refusedBy : Verdict → ℕ
@@ -22,3 +23,15 @@ deniedBy (denies number place) = number
 unfoldable pub given : Reply → ℕ
 given (gives n) = n
 given (denies number place) = 0
+
+-- the cost of a sound grid; 2 ^ 32 and the number of the formula broken; 2 ^ 33 and the refusal's number
+unfoldable pub judgedCode : Judgement → ℕ
+judgedCode (soundAt cost) = cost
+judgedCode (breaks number) = 4294967296 + number
+judgedCode (rejected number place) = 8589934592 + number
+
+-- the refusal's place, 0 where the grid is judged
+unfoldable pub judgedPlace : Judgement → ℕ
+judgedPlace (soundAt cost) = 0
+judgedPlace (breaks number) = 0
+judgedPlace (rejected number place) = place

@@ -1,12 +1,18 @@
-// The functions that Rust and C link: numbers and slices only, no `requires`. A load or a read answers with the refusal's number, 0 for none;
-// a load's place is always 0, and a read's has a function of its own. The sizing figure of a refused file is 0.
+// The functions that Rust and C link: numbers and slices only, no `requires`. A load, a read or a drawing answers with the refusal's number, 0
+// for none; a load's place is always 0, and a read's has a function of its own. The sizing figure of a refused file is 0. A judgement is
+// one number, and its refusal's place has a function of its own.
 ghost use mathlib.Core.Path.{_≡_};
 ghost use lib.ListN.{length};
 ghost use Rattle.model.specs.Bytes.{loadOf, loadedInto};
 ghost use Rattle.model.specs.Reading.{readOf};
+ghost use Rattle.model.specs.Words.{problemOf};
 ghost use Rattle.model.specs.Sizing.{sizingOf};
+ghost use Rattle.model.specs.Schedule.{scheduleOf};
+ghost use Rattle.model.specs.Drawing.{drawVerdict, drawnInto};
+ghost use Rattle.model.specs.Judgement.{judgeOf};
 ghost use Rattle.decoder.specs.Answers.{verdictOf, replyOf};
-ghost use Rattle.capi.specs.Codes.{refusedBy, refusedAt, deniedBy, given};
+ghost use Rattle.checker.specs.Answers.{judgementOf};
+ghost use Rattle.capi.specs.Codes.{refusedBy, refusedAt, deniedBy, given, judgedCode, judgedPlace};
 
 // The number of a verdict's refusal.
 fn refusal_number(v: decoder::Verdict) -> u32
@@ -48,11 +54,34 @@ fn number_given(reply: decoder::Reply) -> usize
     }
 }
 
+// A judgement as one number.
+fn judgement_code(j: checker::Judgement) -> u64
+    ensures { λ r. ⌜ r ≡ judgedCode (judgementOf j) ⌝ }
+{
+    match j {
+        checker::Judgement::Sound(cost) => cost,
+        checker::Judgement::Breaks(number) => 4294967296 + number as u64,
+        checker::Judgement::Rejected(number, place) => 8589934592 + number as u64,
+    }
+}
+
+// The place of a judgement's refusal.
+fn judgement_place(j: checker::Judgement) -> usize
+    ensures { λ r. ⌜ r ≡ judgedPlace (judgementOf j) ⌝ }
+{
+    match j {
+        checker::Judgement::Sound(cost) => 0,
+        checker::Judgement::Breaks(number) => 0,
+        checker::Judgement::Rejected(number, place) => place,
+    }
+}
+
 // Bytes to words: the refusal's number, 0 where a word for each four bytes was written. Its place is always 0.
 #[no_mangle]
 pub extern "C" fn novelbrisca_load(bytes: &[u8], words: &mut [u32]) -> u32
     ensures answer { λ r. ⌜ r ≡ deniedBy (loadOf (now (bytes .entry)) (length (now (words .entry)))) ⌝ }
-    ensures buffer { λ r. ⌜ now (words .exit) ≡ loadedInto (loadOf (now (bytes .entry)) (length (now (words .entry)))) (now (bytes .entry)) (now (words .entry)) ⌝ }
+    ensures buffer { λ r. ⌜ now (words .exit) ≡
+        loadedInto (loadOf (now (bytes .entry)) (length (now (words .entry)))) (now (bytes .entry)) (now (words .entry)) ⌝ }
 {
     let reply = decoder::load(bytes, words);
     denial_number(reply)
@@ -83,4 +112,41 @@ pub extern "C" fn novelbrisca_sizing(words: &[u32]) -> usize
 {
     let reply = decoder::sizing(words);
     number_given(reply)
+}
+
+// A grid: the cost where it is sound, 2^32 and the smallest number among the formulas broken, or 2^33 and the refusal's number. A cost is far
+// below 2^32 and there are eight formulas, so no two cases meet.
+#[no_mangle]
+pub extern "C" fn novelbrisca_judge(words: &[u32], grid: &[u8]) -> u64
+    ensures { λ r. ⌜ r ≡ judgedCode (judgeOf (now (words .entry)) (now (grid .entry))) ⌝ }
+{
+    let j = checker::judge(words, grid);
+    judgement_code(j)
+}
+
+// The place of that refusal, 0 where the grid is judged.
+#[no_mangle]
+pub extern "C" fn novelbrisca_judge_place(words: &[u32], grid: &[u8]) -> usize
+    ensures { λ r. ⌜ r ≡ judgedPlace (judgeOf (now (words .entry)) (now (grid .entry))) ⌝ }
+{
+    let j = checker::judge(words, grid);
+    judgement_place(j)
+}
+
+// A schedule laid out as a grid in the lent bytes: the refusal's number, 0 where the grid was written. The place is that of
+// `novelbrisca_read_place` for a refusal of the file, and 0 for 17.
+#[no_mangle]
+pub extern "C" fn novelbrisca_draw(
+    words: &[u32],
+    starts: &[u32],
+    runs: &[u32],
+    grid: &mut [u8],
+) -> u32
+    ensures answer { λ r. ⌜ r ≡ refusedBy (drawVerdict (now (words .entry)) (length (now (grid .entry)))) ⌝ }
+    ensures buffer { λ r. ⌜ now (grid .exit) ≡
+        drawnInto (drawVerdict (now (words .entry)) (length (now (grid .entry)))) (problemOf (now (words .entry)))
+        (scheduleOf (now (starts .entry)) (now (runs .entry))) (now (grid .entry)) ⌝ }
+{
+    let verdict = schedule::draw(words, starts, runs, grid);
+    refusal_number(verdict)
 }

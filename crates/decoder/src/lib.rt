@@ -327,7 +327,7 @@ fn part(byte: u8) -> u32
 }
 
 // The word of the four bytes from place q on, lowest first.
-fn word_from(bytes: &[u8], q: usize) -> u32
+pub fn word_from(bytes: &[u8], q: usize) -> u32
     requires { ⌜ q + 3 < length (now bytes) ⌝ }
     ensures { λ r. ⌜ r ≡ wordFrom (now (bytes .entry)) q ⌝ }
 {

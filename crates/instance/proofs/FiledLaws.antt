@@ -1,7 +1,7 @@
 -- An accepted file with its layout is all that the accessors ask for.
 -- Assumes nothing.
-use Prim.Native.Nat.{ℕ, _≤_}
-use mathlib.Core.Path.{_≡_, refl, subst⁻¹}
+use Prim.Native.Nat.{ℕ, _*_, _≤_}
+use mathlib.Core.Path.{_≡_, refl, ap₂, subst⁻¹}
 use mathlib.Core.List.{List}
 use native.Mathlib.Nat.{mul-le-mul}
 use native.Mathlib.Omega.{arith}
@@ -58,3 +58,7 @@ weeks-are ws l f = rw (f .laid) (weeks-laid ws)
 -- and as many units
 pub units-are : (ws : List ℕ) (l : Layout) → Filed ws l → problemOf ws .units ≡ l .units
 units-are ws l f = rw (f .laid) (units-laid ws)
+
+-- so a grid has as many cells
+pub cells-are : (ws : List ℕ) (l : Layout) → Filed ws l → problemOf ws .weeks * problemOf ws .units ≡ l .weeks * l .units
+cells-are ws l f = ap₂ (λ (w u : ℕ). w * u) (weeks-are ws l f) (units-are ws l f)

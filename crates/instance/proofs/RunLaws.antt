@@ -1,10 +1,10 @@
--- Sums over the units of a run, as the loops end.
+-- Sums over the units of a set or a run, as the loops end.
 -- Assumes nothing.
 use Prim.Native.Nat.{ℕ, _≤_}
 use mathlib.Core.Path.{_≡_}
 use mathlib.Core.List.{List}
 use Rattle.sums.specs.Sum.{sumTo}
-use Rattle.sums.specs.NumSet.{has, pick}
+use Rattle.sums.specs.NumSet.{NumSet, has, pick}
 use Rattle.sums.proofs.LoopLaws.{sum-ended}
 use Rattle.model.specs.declared.Layout.{Layout}
 use Rattle.model.specs.Words.{problemOf}
@@ -13,11 +13,13 @@ use Rattle.model.specs.Commitment.{runCost}
 use Rattle.instance.specs.Filed.{Filed}
 use Rattle.instance.proofs.FiledLaws.{units-are}
 
-module _ (ws : List ℕ) (l : Layout) (t run k a : ℕ) (f : Filed ws l) (h : k ≤ l .units) (g : l .units ≤ k) where
-  pub output-ended : a ≡ sumTo k (pick (has run) (problemOf ws .capacity t)) → a ≡ output (problemOf ws) t (has run)
+module _ (ws : List ℕ) (l : Layout) (t k a : ℕ) (f : Filed ws l) (h : k ≤ l .units) (g : l .units ≤ k) where
+  -- what any set of units gives
+  pub output-ended : (set : NumSet) → a ≡ sumTo k (pick set (problemOf ws .capacity t)) → a ≡ output (problemOf ws) t set
   unfolding output
-  output-ended e = rw (units-are ws l f) (sum-ended (pick (has run) (problemOf ws .capacity t)) k (l .units) a e h g)
+  output-ended set e = rw (units-are ws l f) (sum-ended (pick set (problemOf ws .capacity t)) k (l .units) a e h g)
 
-  pub cost-ended : a ≡ sumTo k (pick (has run) (problemOf ws .running t)) → a ≡ runCost (problemOf ws) t run
+  -- what a run costs
+  pub cost-ended : (run : ℕ) → a ≡ sumTo k (pick (has run) (problemOf ws .running t)) → a ≡ runCost (problemOf ws) t run
   unfolding runCost
-  cost-ended e = rw (units-are ws l f) (sum-ended (pick (has run) (problemOf ws .running t)) k (l .units) a e h g)
+  cost-ended run e = rw (units-are ws l f) (sum-ended (pick (has run) (problemOf ws .running t)) k (l .units) a e h g)

@@ -22,3 +22,9 @@ pub mod AnswerLaws
 pub mod ReadingLaws
 -- an accepted file is complete, and its figures lie in their ranges
 pub mod FileLaws
+-- grids as bytes, and the verdict on any bytes as a grid
+pub mod VerdictLaws
+-- the judge says sound, at the schedule's cost, exactly of the layouts of sound schedules
+pub mod JudgeLaws
+-- how large the numbers of a judgement are
+pub mod BoundLaws

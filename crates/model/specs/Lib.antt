@@ -3,7 +3,6 @@ pub mod Problem
 pub mod Pairs
 pub mod Grid
 pub mod Rules
-pub mod Judgement
 -- schedules
 pub mod Domain
 pub mod Schedule
@@ -19,6 +18,9 @@ pub mod Reading
 pub mod Ranges
 pub mod Sizing
 pub mod Refusal
+-- the judge, and schedules as grids
+pub mod Drawing
+pub mod Judgement
 -- answers
 pub mod Best
 pub mod Nogood

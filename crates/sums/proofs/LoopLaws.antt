@@ -2,17 +2,18 @@
 -- invariant and test have it, so that `search` finds it.
 -- Assumes nothing.
 use Prim.Native.Nat.{ℕ, suc, _+_, _≤_, _<_}
-use mathlib.Core.Path.{_≡_, refl, _∙_, ap}
-use mathlib.Core.Bool.{Bool, true, false, _||_}
+use mathlib.Core.Path.{_≡_, refl, sym, _∙_, ap}
+use mathlib.Core.Bool.{Bool, true, false, not, _||_}
 use mathlib.Core.List.{List, [], _∷_, _++_, append-assoc}
 use native.Mathlib.Numerals.{add-one}
 use native.Mathlib.Omega.{arith}
 use lib.ListN.{length, getD, set, drop}
 use lib.Seq.{drop-cons, set-at}
 use Rattle.sums.specs.Sum.{sumTo}
-use Rattle.sums.specs.Range.{someTo, listTo}
+use Rattle.sums.specs.Range.{allTo, allTable, someTo, listTo}
 use Rattle.sums.specs.NumSet.{NumSet, has, pick}
-use Rattle.sums.proofs.RangeLaws.{list-length}
+use Rattle.sums.proofs.LogicLaws.{true-false, not-at, not-so}
+use Rattle.sums.proofs.RangeLaws.{all-at, table-at, list-length}
 use Rattle.sums.proofs.NumSetLaws.{zero-has}
 
 -- ---- a sum
@@ -40,6 +41,50 @@ pick-out p f k b is e = rw (← is, e)
 -- all terms
 pub sum-ended : (f : ℕ → ℕ) (k n a : ℕ) → a ≡ sumTo k f → k ≤ n → n ≤ k → a ≡ sumTo n f
 sum-ended f k n a e h m = let o : k ≡ n = omega arith in rw o at e
+
+-- ---- a test of all numbers, left at the first that fails
+
+-- none tested yet
+pub all-start : (p : ℕ → Bool) → allTo 0 p ≡ true
+unfolding allTo
+all-start p = refl
+
+-- one more, which the code finds to hold
+pub all-next : (p : ℕ → Bool) (k : ℕ) (r : Bool) → allTo k p ≡ true → r ≡ p k → not r ≡ false → allTo (k + 1) p ≡ true
+unfolding allTo
+all-next p k true a e h = rw (add-one, a, ← e)
+all-next p k false a e h = true-false h
+
+-- all of them; the bound as the definition has it, and as the code has it
+pub all-ended : (p : ℕ → Bool) (ok : Bool) (k n m : ℕ) → ok ≡ true → allTo k p ≡ true → k ≤ n → n ≤ k → m ≡ n → ok ≡ allTo m p
+all-ended p ok k n m o a h l e = let q : k ≡ m = omega arith in rw (o, ← q, a)
+
+-- one that the code finds to fail
+pub all-broken : (p : ℕ → Bool) (k n m : ℕ) (r : Bool) → r ≡ p k → not r ≡ true → k < n → m ≡ n → false ≡ allTo m p
+all-broken p k n m r e h l q = sym (not-so (allTo m p) (λ a. true-false (sym (all-at m p a k (omega arith)) ∙ sym e ∙ not-at r h)))
+
+-- ---- a test of all cells of a table, row by row
+
+-- no row tested yet
+pub table-start : (n : ℕ) (p : ℕ → ℕ → Bool) → allTable 0 n p ≡ true
+unfolding allTable
+table-start n p = refl
+
+-- one more row
+pub table-next : (p : ℕ → ℕ → Bool) (t k n : ℕ) → allTable t n p ≡ true → allTo k (p t) ≡ true → k ≤ n → n ≤ k → allTable (t + 1) n p ≡ true
+unfolding allTable
+table-next p t k n a b h l = let q : n ≡ k = omega arith in rw (add-one, a, q, b)
+
+-- all rows
+pub table-ended : (p : ℕ → ℕ → Bool) (ok : Bool) (t m n w u : ℕ) → ok ≡ true → allTable t n p ≡ true → t ≤ m → m ≤ t → w ≡ m → u ≡ n
+    → ok ≡ allTable w u p
+table-ended p ok t m n w u o a h l e g = let q : w ≡ t = omega arith in rw (o, q, g, a)
+
+-- a cell that the code finds to fail
+pub table-broken : (p : ℕ → ℕ → Bool) (t k m n w u : ℕ) (r : Bool) → r ≡ p t k → not r ≡ true → t < m → k < n → w ≡ m → u ≡ n
+    → false ≡ allTable w u p
+table-broken p t k m n w u r e h l g q v =
+    sym (not-so (allTable w u p) (λ a. true-false (sym (table-at w u p a t k (omega arith) (omega arith)) ∙ sym e ∙ not-at r h)))
 
 -- ---- a test of some number
 

@@ -82,7 +82,7 @@ impl Counts {
 }
 
 /// The words as document 01 prints them.
-fn shown(words: &[u32]) -> String {
+pub(crate) fn shown(words: &[u32]) -> String {
     let pairs: Vec<String> = words
         .iter()
         .map(|&word| format!("{}:{}", kind_of(word), value_of(word)))

@@ -1,12 +1,22 @@
 //! What the tests of the proved code against the reference share: files to read, ways to damage
-//! them, and the comparison itself. The tests are in `tests`, one file a subject.
+//! them, grids to judge, and the comparisons. The tests are in `tests`, one file a subject.
 
+mod breaches;
 mod compare;
 mod damage;
+mod grids;
+mod judgements;
 mod plans;
 mod random;
+mod schedules;
 
+pub use breaches::{breaches, Case};
 pub use compare::{proved_verdict, Counts, Verdict};
 pub use damage::{edited, near, random_from, recounted, replacements};
-pub use plans::{all_pairs, border_plans, largest, random_plan, small_plans, smallest};
+pub use grids::{all_grids, cells_of, edited_grid, random_grid};
+pub use judgements::{proved_judgement, Judgements};
+pub use plans::{all_pairs, border_plans, largest, random_plan, small_plans, smallest, tiny_plan};
 pub use random::Random;
+pub use schedules::{
+    all_schedules, fitted, in_twos, random_scheduled, staggered, together, Scheduled,
+};

@@ -140,16 +140,37 @@ pub fn random_plan(random: &mut Random, most_weeks: u32, most_units: u32) -> Pla
     plan.crews = random.edgy(1, 16);
     fill(&mut plan.demand, || random.edgy(0, 16_000_000));
     fill(&mut plan.capacity, || random.edgy(0, 1_000_000));
-    fill(&mut plan.duration, || random.edgy(1, weeks));
-    fill(&mut plan.earliest, || random.edgy(1, weeks));
-    for (latest, &earliest) in plan.latest.iter_mut().zip(&plan.earliest) {
-        *latest = random.edgy(earliest, weeks);
-    }
+    choose_overhauls(&mut plan, random);
     for row in plan.maint.iter_mut().chain(&mut plan.running) {
         fill(row, || random.edgy(0, 250_000));
     }
     plan.pairs = random_pairs(random, units);
     plan
+}
+
+/// A plan of the given size with small figures, so that its grids break any of the formulas first,
+/// or none.
+pub fn tiny_plan(random: &mut Random, weeks: u32, units: u32) -> Plan {
+    let mut plan = smallest(weeks, units);
+    plan.crews = random.within(1, units);
+    fill(&mut plan.demand, || random.within(0, 2));
+    fill(&mut plan.capacity, || random.within(0, 3));
+    choose_overhauls(&mut plan, random);
+    for row in plan.maint.iter_mut().chain(&mut plan.running) {
+        fill(row, || random.edgy(0, 9));
+    }
+    plan.pairs = random_pairs(random, units);
+    plan
+}
+
+/// Any durations and windows.
+fn choose_overhauls(plan: &mut Plan, random: &mut Random) {
+    let weeks = plan.weeks;
+    fill(&mut plan.duration, || random.edgy(1, weeks));
+    fill(&mut plan.earliest, || random.edgy(1, weeks));
+    for (latest, &earliest) in plan.latest.iter_mut().zip(&plan.earliest) {
+        *latest = random.edgy(earliest, weeks);
+    }
 }
 
 fn fill(values: &mut [u32], mut value: impl FnMut() -> u32) {

@@ -1,24 +1,32 @@
-//! Document 01 in plain Rust: slow, short, and written from its text. Where a sentence can be read
-//! in two ways it takes the project's reading, so agreement says nothing about that choice.
+//! Document 01, and the formulas of source document 000 that it names, in plain Rust: slow, short,
+//! and written from their text. Where a sentence can be read in two ways it takes the project's
+//! reading, so agreement says nothing about that choice.
 //!
 //! Nothing here is taken from the proved code or links it, so that a mistake in one is not
-//! repeated in the other. Start at [`read`].
+//! repeated in the other. Start at [`read`], then [`judge`].
 
+mod formulas;
+mod judge;
 mod plan;
 mod reader;
+mod schedule;
 mod sizing;
 mod words;
 
+pub use formulas::{broken, cost, MAINT, OFF, ON};
+pub use judge::{judge, judge_input, Judgement};
 pub use plan::{encode, example_a, example_a_words, Plan};
 pub use reader::read;
+pub use schedule::{draw, lay_out};
 pub use sizing::sizing;
 pub use words::{bytes_of, kind_of, load, value_of, word};
 
-/// Why a call was turned away: the listed number and the word's place, from 0 in its own list.
+/// Why a call was turned away: the listed number and the word's place, from 0 in its own list; a
+/// grid's place is a byte's.
 #[derive(Clone, Copy, Debug, PartialEq, Eq)]
 pub struct Refusal {
     /// The number in the list of document 01.
     pub number: u32,
-    /// The place of the word at fault; 0 for the causes that have none.
+    /// The place of the word or byte at fault; 0 for the causes that have none.
     pub place: usize,
 }

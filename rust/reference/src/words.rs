@@ -47,7 +47,8 @@ pub fn load(bytes: &[u8], lent: usize) -> Result<Vec<u32>, Refusal> {
     Ok(bytes.chunks(4).map(word_of_bytes).collect())
 }
 
-fn word_of_bytes(four: &[u8]) -> u32 {
+/// The word of four bytes.
+pub(crate) fn word_of_bytes(four: &[u8]) -> u32 {
     four.iter()
         .rev()
         .fold(0, |higher, &byte| higher * 256 + u32::from(byte))

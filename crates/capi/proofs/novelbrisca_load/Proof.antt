@@ -4,10 +4,6 @@ use Rattle.capi.proofs.CodeLaws.{codes}
 use borrow.Author.Needs.{needs}
 use Rattle.capi.proofs.novelbrisca_load.Statement.{statement}
 use Rattle.capi.proofs.novelbrisca_load.Tie as tie
-use Rattle.capi.proofs.novelbrisca_load.Reads as reads
-use Rattle.capi.proofs.novelbrisca_load.Lts as lts
-use Rattle.capi.proofs.denial_number.Reads as denial-number-reads
-use Rattle.decoder.proofs.load.Reads as load-reads
 
 load-requires : tie.Need-load-requires
 load-requires c κs = search needs

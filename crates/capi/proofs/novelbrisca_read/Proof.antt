@@ -4,10 +4,6 @@ use Rattle.capi.proofs.CodeLaws.{codes}
 use borrow.Author.Needs.{needs}
 use Rattle.capi.proofs.novelbrisca_read.Statement.{statement}
 use Rattle.capi.proofs.novelbrisca_read.Tie as tie
-use Rattle.capi.proofs.novelbrisca_read.Reads as reads
-use Rattle.capi.proofs.novelbrisca_read.Lts as lts
-use Rattle.capi.proofs.refusal_number.Reads as refusal-number-reads
-use Rattle.decoder.proofs.read.Reads as read-reads
 
 read-requires : tie.Need-read-requires
 read-requires c κs = search needs

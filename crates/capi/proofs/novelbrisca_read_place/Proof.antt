@@ -4,10 +4,6 @@ use Rattle.capi.proofs.CodeLaws.{codes}
 use borrow.Author.Needs.{needs}
 use Rattle.capi.proofs.novelbrisca_read_place.Statement.{statement}
 use Rattle.capi.proofs.novelbrisca_read_place.Tie as tie
-use Rattle.capi.proofs.novelbrisca_read_place.Reads as reads
-use Rattle.capi.proofs.novelbrisca_read_place.Lts as lts
-use Rattle.capi.proofs.refusal_place.Reads as refusal-place-reads
-use Rattle.decoder.proofs.read.Reads as read-reads
 
 read-requires : tie.Need-read-requires
 read-requires c κs = search needs

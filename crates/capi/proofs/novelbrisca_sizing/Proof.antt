@@ -4,10 +4,6 @@ use Rattle.capi.proofs.CodeLaws.{codes}
 use borrow.Author.Needs.{needs}
 use Rattle.capi.proofs.novelbrisca_sizing.Statement.{statement}
 use Rattle.capi.proofs.novelbrisca_sizing.Tie as tie
-use Rattle.capi.proofs.novelbrisca_sizing.Reads as reads
-use Rattle.capi.proofs.novelbrisca_sizing.Lts as lts
-use Rattle.capi.proofs.number_given.Reads as number-given-reads
-use Rattle.decoder.proofs.sizing.Reads as sizing-reads
 
 sizing-requires : tie.Need-sizing-requires
 sizing-requires c κs = search needs

@@ -4,8 +4,6 @@ use Rattle.capi.proofs.CodeLaws.{replies}
 use borrow.Author.Needs.{needs}
 use Rattle.capi.proofs.number_given.Statement.{statement}
 use Rattle.capi.proofs.number_given.Tie as tie
-use Rattle.capi.proofs.number_given.Reads as reads
-use Rattle.capi.proofs.number_given.Lts as lts
 
 enum-known-reply : tie.Need-enum-known-reply
 enum-known-reply c = search needs

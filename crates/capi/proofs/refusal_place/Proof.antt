@@ -4,8 +4,6 @@ use Rattle.capi.proofs.CodeLaws.{refusals}
 use borrow.Author.Needs.{needs}
 use Rattle.capi.proofs.refusal_place.Statement.{statement}
 use Rattle.capi.proofs.refusal_place.Tie as tie
-use Rattle.capi.proofs.refusal_place.Reads as reads
-use Rattle.capi.proofs.refusal_place.Lts as lts
 
 enum-told : tie.Need-enum-told
 enum-told c = search needs

@@ -5,8 +5,6 @@ use Rattle.sums.proofs.Tests.{tests}
 use borrow.Author.Needs.{needs}
 use Rattle.decoder.proofs.due_at.Statement.{statement}
 use Rattle.decoder.proofs.due_at.Tie as tie
-use Rattle.decoder.proofs.due_at.Reads as reads
-use Rattle.decoder.proofs.due_at.Lts as lts
 
 add-result : tie.Need-add-result
 add-result c = search needs

@@ -4,8 +4,6 @@ use Rattle.model.specs.Reading.{endFault}
 use Rattle.sums.proofs.Tests.{tests}
 use Rattle.decoder.proofs.end_fault.Statement.{statement}
 use Rattle.decoder.proofs.end_fault.Tie as tie
-use Rattle.decoder.proofs.end_fault.Reads as reads
-use Rattle.decoder.proofs.end_fault.Lts as lts
 
 returns : tie.Need-returns
 unfolding endFault

@@ -4,11 +4,6 @@ use Rattle.decoder.proofs.StepLaws.{as-other, as-pair}
 use borrow.Author.Needs.{needs}
 use Rattle.decoder.proofs.fault_as_pair.Statement.{statement}
 use Rattle.decoder.proofs.fault_as_pair.Tie as tie
-use Rattle.decoder.proofs.fault_as_pair.Reads as reads
-use Rattle.decoder.proofs.fault_as_pair.Lts as lts
-use Rattle.decoder.proofs.pair_fault.Reads as pair-fault-reads
-use Rattle.instance.proofs.kind_of.Reads as kind-of-reads
-use Rattle.instance.proofs.value_of.Reads as value-of-reads
 
 kind-of-requires : tie.Need-kind-of-requires
 kind-of-requires c κs = search needs

@@ -4,8 +4,6 @@ use Rattle.model.specs.Words.{kindOf}
 use borrow.Author.Needs.{needs}
 use Rattle.decoder.proofs.kind_floor.Statement.{statement}
 use Rattle.decoder.proofs.kind_floor.Tie as tie
-use Rattle.decoder.proofs.kind_floor.Reads as reads
-use Rattle.decoder.proofs.kind_floor.Lts as lts
 
 mul-result : tie.Need-mul-result
 mul-result c = search needs

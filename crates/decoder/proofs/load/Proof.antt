@@ -9,9 +9,6 @@ use Rattle.decoder.proofs.BytesLaws.{load-uneven, load-short, load-all,
 use borrow.Author.Needs.{needs}
 use Rattle.decoder.proofs.load.Statement.{statement}
 use Rattle.decoder.proofs.load.Tie as tie
-use Rattle.decoder.proofs.load.Reads as reads
-use Rattle.decoder.proofs.load.Lts as lts
-use Rattle.decoder.proofs.word_from.Reads as word-from-reads
 
 abbrev Inv-loop : tie.InvT-loop
 Inv-loop bytes words₀ n k₀ words k = (k ≤ n) × (length words ≡ length words₀) × (words ≡ wordsTo bytes k ++ drop k words₀)

@@ -6,8 +6,6 @@ use Rattle.model.specs.Reading.{pairFault}
 use borrow.Author.Needs.{needs}
 use Rattle.decoder.proofs.pair_fault.Statement.{statement}
 use Rattle.decoder.proofs.pair_fault.Tie as tie
-use Rattle.decoder.proofs.pair_fault.Reads as reads
-use Rattle.decoder.proofs.pair_fault.Lts as lts
 
 returns : tie.Need-returns
 unfolding pairFault

@@ -8,11 +8,6 @@ use Rattle.decoder.proofs.StepLaws.{pass-start, pass-next, pass-stop}
 use borrow.Author.Needs.{needs}
 use Rattle.decoder.proofs.pass.Statement.{statement}
 use Rattle.decoder.proofs.pass.Tie as tie
-use Rattle.decoder.proofs.pass.Reads as reads
-use Rattle.decoder.proofs.pass.Lts as lts
-use Rattle.decoder.proofs.kind_floor.Reads as kind-floor-reads
-use Rattle.decoder.proofs.least.Reads as least-reads
-use Rattle.std.proofs.num.wrapping_sub_u32.Reads as wrapping-sub-u32-reads
 
 abbrev Inv-loop : tie.InvT-loop
 Inv-loop words q most low end p₀ p =

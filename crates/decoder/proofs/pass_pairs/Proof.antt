@@ -9,10 +9,6 @@ use Rattle.decoder.proofs.StepLaws.{pass-stop, pairs-next, prev-next}
 use borrow.Author.Needs.{needs}
 use Rattle.decoder.proofs.pass_pairs.Statement.{statement}
 use Rattle.decoder.proofs.pass_pairs.Tie as tie
-use Rattle.decoder.proofs.pass_pairs.Reads as reads
-use Rattle.decoder.proofs.pass_pairs.Lts as lts
-use Rattle.decoder.proofs.fault_as_pair.Reads as fault-as-pair-reads
-use Rattle.instance.proofs.value_of.Reads as value-of-reads
 
 abbrev Inv-loop : tie.InvT-loop
 Inv-loop words l q prev₀ p₀ prev p =

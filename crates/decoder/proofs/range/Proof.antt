@@ -4,8 +4,6 @@ use Rattle.model.specs.Reading.{within}
 use Rattle.sums.proofs.Tests.{tests}
 use Rattle.decoder.proofs.range.Statement.{statement}
 use Rattle.decoder.proofs.range.Tie as tie
-use Rattle.decoder.proofs.range.Reads as reads
-use Rattle.decoder.proofs.range.Lts as lts
 
 returns : tie.Need-returns
 unfolding within

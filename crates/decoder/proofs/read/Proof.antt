@@ -8,12 +8,6 @@ use Rattle.model.specs.Reading.{readFrom, readOf}
 use Rattle.decoder.proofs.StepLaws.{stage-clear, read-start, read-out, read-fault, read-end, read-more, read-next}
 use Rattle.decoder.proofs.read.Statement.{statement}
 use Rattle.decoder.proofs.read.Tie as tie
-use Rattle.decoder.proofs.read.Reads as reads
-use Rattle.decoder.proofs.read.Lts as lts
-use Rattle.decoder.proofs.pass_stage.Reads as pass-stage-reads
-use Rattle.decoder.proofs.stage_at.Reads as stage-at-reads
-use Rattle.instance.proofs.kind_of.Reads as kind-of-reads
-use Rattle.instance.proofs.layout_of.Reads as layout-of-reads
 
 abbrev Inv-loop : tie.InvT-loop
 Inv-loop words l q₀ q = (q ≤ length words) × (readOf words ≡ readFrom words q (length words - q))

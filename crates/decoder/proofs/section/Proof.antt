@@ -4,10 +4,6 @@ use Rattle.decoder.proofs.ArmLaws.{section-range}
 use borrow.Author.Needs.{needs}
 use Rattle.decoder.proofs.section.Statement.{statement}
 use Rattle.decoder.proofs.section.Tie as tie
-use Rattle.decoder.proofs.section.Reads as reads
-use Rattle.decoder.proofs.section.Lts as lts
-use Rattle.decoder.proofs.range.Reads as range-reads
-use Rattle.instance.proofs.wide.Reads as wide-reads
 
 wide-requires : tie.Need-wide-requires
 wide-requires c κs = search needs

@@ -4,11 +4,6 @@ use Rattle.decoder.proofs.SizingLaws.{sized-refused, sized-accepted}
 use borrow.Author.Needs.{needs}
 use Rattle.decoder.proofs.sizing.Statement.{statement}
 use Rattle.decoder.proofs.sizing.Tie as tie
-use Rattle.decoder.proofs.sizing.Reads as reads
-use Rattle.decoder.proofs.sizing.Lts as lts
-use Rattle.decoder.proofs.read.Reads as read-reads
-use Rattle.decoder.proofs.space_bound.Reads as space-bound-reads
-use Rattle.instance.proofs.value_at.Reads as value-at-reads
 
 read-requires : tie.Need-read-requires
 read-requires c κs = search needs

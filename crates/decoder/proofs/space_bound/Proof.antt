@@ -8,9 +8,6 @@ use Rattle.decoder.proofs.SizingLaws.{power-start, sum-start, cap-fits,
 use borrow.Author.Needs.{needs}
 use Rattle.decoder.proofs.space_bound.Statement.{statement}
 use Rattle.decoder.proofs.space_bound.Tie as tie
-use Rattle.decoder.proofs.space_bound.Reads as reads
-use Rattle.decoder.proofs.space_bound.Lts as lts
-use Rattle.decoder.proofs.capped.Reads as capped-reads
 
 abbrev Inv-loop : tie.InvT-loop
 Inv-loop w u power₀ sum₀ j₀ power sum j =

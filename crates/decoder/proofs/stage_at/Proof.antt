@@ -4,12 +4,6 @@ use Rattle.decoder.proofs.StepLaws.{laid-here, fault-here, onward-here}
 use borrow.Author.Needs.{needs}
 use Rattle.decoder.proofs.stage_at.Statement.{statement}
 use Rattle.decoder.proofs.stage_at.Tie as tie
-use Rattle.decoder.proofs.stage_at.Reads as reads
-use Rattle.decoder.proofs.stage_at.Lts as lts
-use Rattle.decoder.proofs.stage_for.Reads as stage-for-reads
-use Rattle.decoder.proofs.value_before.Reads as value-before-reads
-use Rattle.instance.proofs.kind_of.Reads as kind-of-reads
-use Rattle.instance.proofs.value_of.Reads as value-of-reads
 
 value-before-requires : tie.Need-value-before-requires
 value-before-requires c κs = search needs

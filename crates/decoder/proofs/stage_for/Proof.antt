@@ -5,11 +5,6 @@ use Rattle.decoder.proofs.ArmLaws.{dues}
 use borrow.Author.Needs.{needs}
 use Rattle.decoder.proofs.stage_for.Statement.{statement}
 use Rattle.decoder.proofs.stage_for.Tie as tie
-use Rattle.decoder.proofs.stage_for.Reads as reads
-use Rattle.decoder.proofs.stage_for.Lts as lts
-use Rattle.decoder.proofs.alone.Reads as alone-reads
-use Rattle.decoder.proofs.due_at.Reads as due-at-reads
-use Rattle.decoder.proofs.stage_of.Reads as stage-of-reads
 
 due-at-requires : tie.Need-due-at-requires
 due-at-requires c κs = search needs

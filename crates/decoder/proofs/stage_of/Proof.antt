@@ -6,14 +6,6 @@ use mathlib.Core.Logic.{⊎-elim}
 use borrow.Author.Needs.{needs}
 use Rattle.decoder.proofs.stage_of.Statement.{statement}
 use Rattle.decoder.proofs.stage_of.Tie as tie
-use Rattle.decoder.proofs.stage_of.Reads as reads
-use Rattle.decoder.proofs.stage_of.Lts as lts
-use Rattle.decoder.proofs.alone.Reads as alone-reads
-use Rattle.decoder.proofs.end_fault.Reads as end-fault-reads
-use Rattle.decoder.proofs.pair_fault.Reads as pair-fault-reads
-use Rattle.decoder.proofs.range.Reads as range-reads
-use Rattle.decoder.proofs.section.Reads as section-reads
-use Rattle.decoder.proofs.window_fault.Reads as window-fault-reads
 
 range-requires : tie.Need-range-requires
 range-requires c κs = search needs

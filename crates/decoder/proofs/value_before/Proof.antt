@@ -4,9 +4,6 @@ use Rattle.decoder.proofs.StepLaws.{before-first}
 use borrow.Author.Needs.{needs}
 use Rattle.decoder.proofs.value_before.Statement.{statement}
 use Rattle.decoder.proofs.value_before.Tie as tie
-use Rattle.decoder.proofs.value_before.Reads as reads
-use Rattle.decoder.proofs.value_before.Lts as lts
-use Rattle.instance.proofs.value_at.Reads as value-at-reads
 
 value-at-requires : tie.Need-value-at-requires
 value-at-requires c κs = search needs

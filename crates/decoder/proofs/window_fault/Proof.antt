@@ -4,8 +4,6 @@ use Rattle.model.specs.Reading.{windowFault}
 use Rattle.sums.proofs.Tests.{tests}
 use Rattle.decoder.proofs.window_fault.Statement.{statement}
 use Rattle.decoder.proofs.window_fault.Tie as tie
-use Rattle.decoder.proofs.window_fault.Reads as reads
-use Rattle.decoder.proofs.window_fault.Lts as lts
 
 returns : tie.Need-returns
 unfolding windowFault

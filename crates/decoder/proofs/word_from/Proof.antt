@@ -4,9 +4,6 @@ use Rattle.decoder.proofs.BytesLaws.{word-of}
 use borrow.Author.Needs.{needs}
 use Rattle.decoder.proofs.word_from.Statement.{statement}
 use Rattle.decoder.proofs.word_from.Tie as tie
-use Rattle.decoder.proofs.word_from.Reads as reads
-use Rattle.decoder.proofs.word_from.Lts as lts
-use Rattle.decoder.proofs.part.Reads as part-reads
 
 shared-slice-read-part : tie.Need-shared-slice-read-part
 shared-slice-read-part c = search needs

@@ -4,9 +4,6 @@ use Rattle.instance.proofs.FigureLaws.{crews-at, crews-some, crews-most
 use borrow.Author.Needs.{needs}
 use Rattle.instance.proofs.crews.Statement.{statement}
 use Rattle.instance.proofs.crews.Tie as tie
-use Rattle.instance.proofs.crews.Reads as reads
-use Rattle.instance.proofs.crews.Lts as lts
-use Rattle.instance.proofs.value_of.Reads as value-of-reads
 
 shared-slice-read-value-of : tie.Need-shared-slice-read-value-of
 shared-slice-read-value-of c = search needs

@@ -4,10 +4,6 @@ use Rattle.sums.proofs.LoopLaws.{pick-in, pick-out}
 use borrow.Author.Needs.{needs}
 use Rattle.instance.proofs.output_part.Statement.{statement}
 use Rattle.instance.proofs.output_part.Tie as tie
-use Rattle.instance.proofs.output_part.Reads as reads
-use Rattle.instance.proofs.output_part.Lts as lts
-use Rattle.instance.proofs.capacity.Reads as capacity-reads
-use Rattle.sets.proofs.has.Reads as has-reads
 
 has-requires : tie.Need-has-requires
 has-requires c κs = search needs

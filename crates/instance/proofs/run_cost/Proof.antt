@@ -10,10 +10,6 @@ use Rattle.instance.proofs.RunLaws.{cost-ended}
 use borrow.Author.Needs.{needs}
 use Rattle.instance.proofs.run_cost.Statement.{statement}
 use Rattle.instance.proofs.run_cost.Tie as tie
-use Rattle.instance.proofs.run_cost.Reads as reads
-use Rattle.instance.proofs.run_cost.Lts as lts
-use Rattle.instance.proofs.Euro.plus.Reads as plus-reads
-use Rattle.instance.proofs.cost_part.Reads as cost-part-reads
 
 abbrev Inv-loop : tie.InvT-loop
 Inv-loop words l t run units sum₀ i₀ sum i =

@@ -10,10 +10,6 @@ use Rattle.instance.proofs.RunLaws.{output-ended}
 use borrow.Author.Needs.{needs}
 use Rattle.instance.proofs.run_output.Statement.{statement}
 use Rattle.instance.proofs.run_output.Tie as tie
-use Rattle.instance.proofs.run_output.Reads as reads
-use Rattle.instance.proofs.run_output.Lts as lts
-use Rattle.instance.proofs.Kilo.plus.Reads as plus-reads
-use Rattle.instance.proofs.output_part.Reads as output-part-reads
 
 abbrev Inv-loop : tie.InvT-loop
 Inv-loop words l t run units sum₀ i₀ sum i =

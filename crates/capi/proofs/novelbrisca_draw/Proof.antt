@@ -1,0 +1,22 @@
+-- `capi::novelbrisca_draw` meets its contract: the verdict and the bytes of `schedule::draw`.
+-- Assumes nothing.
+use Rattle.capi.proofs.CodeLaws.{codes}
+use borrow.Author.Needs.{needs}
+use Rattle.capi.proofs.novelbrisca_draw.Statement.{statement}
+use Rattle.capi.proofs.novelbrisca_draw.Tie as tie
+
+draw-requires : tie.Need-draw-requires
+draw-requires c κs = search needs
+
+refusal-number-requires : tie.Need-refusal-number-requires
+refusal-number-requires c κs = search needs
+
+same-length : tie.Need-same-length
+same-length c = search needs
+
+returns : tie.Need-returns
+returns c = (search codes, search codes)
+
+pub novelbrisca-draw-spec : {M : Type 1} → statement M
+novelbrisca-draw-spec =
+    tie.close (tie.spec draw-requires refusal-number-requires same-length returns)

@@ -1,0 +1,127 @@
+-- The judge step by step: the grid's own refusals, the judgement on its cells, and what the whole call answers.
+-- Assumes nothing.
+use Prim.Native.Nat.{ℕ, suc, _+_, _*_, _-_, _≤_, _<_}
+use mathlib.Core.Path.{_≡_, sym, _∙_, ap}
+use mathlib.Core.List.{List}
+use native.Mathlib.Omega.{arith}
+use lib.ListN.{length, getD}
+use borrow.Author.Tests.{eq-eqb, ne-eqb, le-leb, lt-leb}
+use Rattle.model.specs.declared.Layout.{Layout}
+use Rattle.model.specs.Problem.{Problem}
+use Rattle.model.specs.Grid.{States, cell}
+use Rattle.model.specs.Rules.{broken, cost9}
+use Rattle.model.specs.Words.{layoutOf, problemOf}
+use Rattle.model.specs.Verdict.{accepted, refused, andThen, firstFault}
+use Rattle.model.specs.Reading.{readOf}
+use Rattle.model.specs.Refusal.{cellFault, gridVerdict}
+use Rattle.model.specs.Judgement.{soundAt, breaks, rejected, judgement, judgeOf}
+use Rattle.model.proofs.VerdictLaws.{accepted-cells}
+use Rattle.instance.specs.Filed.{Filed}
+use Rattle.instance.proofs.FiledLaws.{filed, weeks-are, units-are, cells-are}
+use Rattle.decoder.specs.Answers.{verdictOf}
+use Rattle.decoder.specs.declared.Verdict.{Verdict}
+use Rattle.decoder.specs.declared.Verdict.the-variants.{Accepted, Refused}
+use Rattle.checker.specs.Answers.{judgementOf}
+use Rattle.checker.specs.declared.Judgement.{Judgement}
+use Rattle.checker.specs.Stated.{Stated}
+
+-- ---- 12, at the first byte above 2
+
+-- the verdict on all bytes is that from byte q on
+pub record Onward (g : List ℕ) (q : ℕ) : Type 0 where
+  pub same : firstFault (cellFault g) 0 (length g) ≡ firstFault (cellFault g) q (length g - q)
+
+-- before the first byte
+pub cells-start : (g : List ℕ) → Onward g 0
+cells-start g = record { same = let n : length g ≡ length g - 0 = omega arith in ap (firstFault (cellFault g) 0) n }
+
+module _ (g : List ℕ) (q : ℕ) (on : Onward g q) where
+  -- past the last
+  pub cells-ended : length g ≤ q → accepted ≡ firstFault (cellFault g) 0 (length g)
+  unfolding firstFault
+  cells-ended h = let n : length g - q ≡ 0 = omega arith in sym (on .same ∙ rw n)
+
+  module _ (h : q < length g) where
+    more : length g - q ≡ suc (length g - (q + 1))
+    more = omega arith
+
+    -- a byte above 2
+    pub cells-fault : 2 < getD g q 0 → refused 12 q ≡ firstFault (cellFault g) 0 (length g)
+    unfolding firstFault cellFault
+    cells-fault e = sym (on .same ∙ rw more (simp (lt-leb (getD g q 0) 2 e)))
+
+    -- any other
+    pub cells-next : getD g q 0 ≤ 2 → Onward g (q + 1)
+    unfolding firstFault cellFault
+    cells-next e = record { same = on .same ∙ rw more (simp (le-leb (getD g q 0) 2 e)) }
+
+-- ---- 11, then 12
+
+module _ (ws g : List ℕ) (l : Layout) (f : Filed ws l) where
+  -- a byte too few or too many
+  pub length-fault : (length g ≡ l .weeks * l .units → ⊥) → refused 11 0 ≡ gridVerdict (problemOf ws) g
+  unfolding gridVerdict
+  length-fault n = simp (cells-are ws l f, ne-eqb (length g) (l .weeks * l .units) n)
+
+  -- the bytes decide
+  pub length-right : (v : Verdict) → length g ≡ l .weeks * l .units → verdictOf v ≡ firstFault (cellFault g) 0 (length g)
+      → verdictOf v ≡ gridVerdict (problemOf ws) g
+  unfolding gridVerdict
+  length-right v e said = said ∙ simp (cells-are ws l f, eq-eqb (length g) (l .weeks * l .units) e)
+
+-- ---- the judgement on cells
+
+module _ (p : Problem) (x : States) (rule : ℕ) (is : rule ≡ broken p x) where
+  -- a formula is broken
+  pub judged-breaks : (rule ≡ 0 → ⊥) → breaks rule ≡ judgement p x
+  unfolding judgement
+  judged-breaks n = simp (← is, ne-eqb rule 0 n)
+
+  -- none is
+  pub judged-sound : (cost : ℕ) → rule ≡ 0 → cost ≡ cost9 p x → soundAt cost ≡ judgement p x
+  unfolding judgement
+  judged-sound cost e c = simp (← is, eq-eqb rule 0 e, ← c)
+
+-- ---- an accepted file
+
+module _ (ws g : List ℕ) (v : Verdict) (e : readOf ws ≡ accepted) (said : verdictOf v ≡ gridVerdict (problemOf ws) g) where
+  -- the grid is refused
+  pub grid-refused : (number place : ℕ) → v ≡ Refused number place → rejected number place ≡ judgeOf ws g
+  unfolding judgeOf andThen
+  grid-refused number place is = let q : refused number place ≡ gridVerdict (problemOf ws) g = rw is at said in rw (e, ← q)
+
+  module _ (l : Layout) (laid : l ≡ layoutOf ws) (is : v ≡ Accepted) where
+    passes : gridVerdict (problemOf ws) g ≡ accepted
+    passes = sym (rw is at said)
+
+    -- so the grid has one of the three states for each week and unit
+    pub stated : Stated ws g l
+    stated =
+        let f = filed ws l e laid in
+        let u = units-are ws l f in
+        record {
+          grid = record {
+            filed = f;
+            full = accepted-cells (problemOf ws) g passes .0 ∙ cells-are ws l f;
+            weeks-are = weeks-are ws l f;
+            units-are = u;
+          };
+          cells = rw (← u) (accepted-cells (problemOf ws) g passes .1);
+        }
+
+    -- and the judgement on its cells is the answer
+    pub grid-judged : (j : Judgement) → judgementOf j ≡ judgement (problemOf ws) (cell (l .units) g) → judgementOf j ≡ judgeOf ws g
+    unfolding judgeOf andThen
+    grid-judged j is = is ∙ rw (e, passes, units-are ws l (filed ws l e laid))
+
+-- ---- any words
+
+module _ (ws g : List ℕ) (v : Verdict) (said : verdictOf v ≡ readOf ws) where
+  -- the file is refused
+  pub file-refused : (number place : ℕ) → v ≡ Refused number place → rejected number place ≡ judgeOf ws g
+  unfolding judgeOf andThen
+  file-refused number place is = let q : refused number place ≡ readOf ws = rw is at said in rw (← q)
+
+  -- or accepted
+  pub file-accepted : v ≡ Accepted → readOf ws ≡ accepted
+  file-accepted is = sym (rw is at said)

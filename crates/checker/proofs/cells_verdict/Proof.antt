@@ -1,0 +1,49 @@
+-- `checker::cells_verdict` meets its contract: the verdict on all bytes is that from the byte at hand on.
+-- Assumes nothing.
+use Prim.Native.Nat.{_-_}
+use lib.ListN.{length}
+use borrow.Author.Needs.{needs}
+use Rattle.checker.proofs.JudgingLaws.{Onward, cells-start, cells-fault, cells-next, cells-ended}
+use Rattle.checker.proofs.cells_verdict.Statement.{statement}
+use Rattle.checker.proofs.cells_verdict.Tie as tie
+
+abbrev Inv-loop : tie.InvT-loop
+Inv-loop grid q₀ q = Onward grid q
+
+abbrev μ-loop : tie.MeasureT-loop
+μ-loop grid q₀ q = length grid - q
+
+loop-holds : tie.Need-loop-holds Inv-loop μ-loop
+loop-holds c = search cells-start
+
+shared-slice-read-if1 : tie.Need-shared-slice-read-if1 Inv-loop μ-loop
+shared-slice-read-if1 c = search needs
+
+returns : tie.Need-returns Inv-loop μ-loop
+returns c = search cells-fault
+
+add-q : tie.Need-add-q Inv-loop μ-loop
+add-q c = search needs
+
+loop-less : tie.Need-loop-less Inv-loop μ-loop
+loop-less c = search needs
+
+loop-again : tie.Need-loop-again Inv-loop μ-loop
+loop-again c = search cells-next
+
+returns-2 : tie.Need-returns-2 Inv-loop μ-loop
+returns-2 c = search cells-ended
+
+pub cells-verdict-spec : {M : Type 1} → statement M
+cells-verdict-spec =
+    tie.close
+    (tie.spec
+    Inv-loop
+    μ-loop
+    loop-holds
+    shared-slice-read-if1
+    returns
+    add-q
+    loop-less
+    loop-again
+    returns-2)

@@ -1,0 +1,55 @@
+-- `checker::week_cost` meets its contract: the sum so far is that of the first units.
+-- Assumes nothing.
+use Prim.Native.Nat.{_-_, _*_, _≤_}
+use mathlib.Core.Path.{_≡_}
+use borrow.Author.Needs.{needs}
+use Rattle.sums.specs.Sum.{sumTo}
+use Rattle.sums.proofs.LoopLaws.{sum-start, sum-next}
+use Rattle.model.specs.Words.{problemOf}
+use Rattle.model.specs.Grid.{cell}
+use Rattle.model.specs.Rules.{charge}
+use Rattle.checker.proofs.CostLaws.{week-ended}
+use Rattle.checker.proofs.week_cost.Statement.{statement}
+use Rattle.checker.proofs.week_cost.Tie as tie
+
+abbrev Inv-loop : tie.InvT-loop
+Inv-loop words grid l t units sum₀ i₀ sum i =
+    (i ≤ units) × (sum .0 ≤ 268435456 * i) × (sum .0 ≡ sumTo i (charge (problemOf words) (cell (l .units) grid) t))
+
+abbrev μ-loop : tie.MeasureT-loop
+μ-loop words grid l t units sum₀ i₀ sum i = units - i
+
+loop-holds : tie.Need-loop-holds Inv-loop μ-loop
+loop-holds c = (search needs, search needs, search sum-start)
+
+cell-cost-requires : tie.Need-cell-cost-requires Inv-loop μ-loop
+cell-cost-requires c κs = search needs
+
+plus-requires : tie.Need-plus-requires Inv-loop μ-loop
+plus-requires c κs = search needs
+
+add-i : tie.Need-add-i Inv-loop μ-loop
+add-i c = search needs
+
+loop-less : tie.Need-loop-less Inv-loop μ-loop
+loop-less c = search needs
+
+loop-again : tie.Need-loop-again Inv-loop μ-loop
+loop-again c = (search needs, search needs, search sum-next)
+
+returns : tie.Need-returns Inv-loop μ-loop
+returns c = (search week-ended, search needs)
+
+pub week-cost-spec : {M : Type 1} → statement M
+week-cost-spec =
+    tie.close
+    (tie.spec
+    Inv-loop
+    μ-loop
+    loop-holds
+    cell-cost-requires
+    plus-requires
+    add-i
+    loop-less
+    loop-again
+    returns)

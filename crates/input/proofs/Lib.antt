@@ -1,0 +1,2 @@
+-- the search for the end word, and the front of a list of words
+pub mod InputLaws

@@ -1,0 +1,49 @@
+-- `rules::first_out` meets its contract: no week before the loop's is one of maintenance.
+-- Assumes nothing.
+use Prim.Native.Nat.{_-_, _≤_}
+use Rattle.model.specs.Grid.{cell}
+use Rattle.rules.proofs.SpanLaws.{NoneBefore, none-start, none-next, first-found, first-none}
+use borrow.Author.Needs.{needs}
+use Rattle.rules.proofs.first_out.Statement.{statement}
+use Rattle.rules.proofs.first_out.Tie as tie
+
+abbrev Inv-loop : tie.InvT-loop
+Inv-loop grid l i weeks t₀ t = (t ≤ weeks) × NoneBefore (cell (l .units) grid) i t
+
+abbrev μ-loop : tie.MeasureT-loop
+μ-loop grid l i weeks t₀ t = weeks - t
+
+loop-holds : tie.Need-loop-holds Inv-loop μ-loop
+loop-holds c = (search needs, search none-start)
+
+state-requires : tie.Need-state-requires Inv-loop μ-loop
+state-requires c κs = search needs
+
+returns : tie.Need-returns Inv-loop μ-loop
+returns c = search first-found
+
+add-t : tie.Need-add-t Inv-loop μ-loop
+add-t c = search needs
+
+loop-less : tie.Need-loop-less Inv-loop μ-loop
+loop-less c = search needs
+
+loop-again : tie.Need-loop-again Inv-loop μ-loop
+loop-again c = (search needs, search none-next)
+
+returns-2 : tie.Need-returns-2 Inv-loop μ-loop
+returns-2 c = search first-none
+
+pub first-out-spec : {M : Type 1} → statement M
+first-out-spec =
+    tie.close
+    (tie.spec
+    Inv-loop
+    μ-loop
+    loop-holds
+    state-requires
+    returns
+    add-t
+    loop-less
+    loop-again
+    returns-2)

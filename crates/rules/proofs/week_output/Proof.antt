@@ -1,0 +1,55 @@
+-- `rules::week_output` meets its contract: the sum so far is that of the first units.
+-- Assumes nothing.
+use Prim.Native.Nat.{_-_, _*_, _≤_}
+use mathlib.Core.Path.{_≡_}
+use borrow.Author.Needs.{needs}
+use Rattle.sums.specs.Sum.{sumTo}
+use Rattle.sums.specs.NumSet.{pick}
+use Rattle.sums.proofs.LoopLaws.{sum-start, sum-next}
+use Rattle.model.specs.Words.{problemOf}
+use Rattle.model.specs.Grid.{cell, isOn}
+use Rattle.instance.proofs.RunLaws.{output-ended}
+use Rattle.rules.proofs.week_output.Statement.{statement}
+use Rattle.rules.proofs.week_output.Tie as tie
+
+abbrev Inv-loop : tie.InvT-loop
+Inv-loop words grid l t units sum₀ i₀ sum i =
+    (i ≤ units) × (sum .0 ≤ 1000000 * i) × (sum .0 ≡ sumTo i (pick (isOn (cell (l .units) grid) t) (problemOf words .capacity t)))
+
+abbrev μ-loop : tie.MeasureT-loop
+μ-loop words grid l t units sum₀ i₀ sum i = units - i
+
+loop-holds : tie.Need-loop-holds Inv-loop μ-loop
+loop-holds c = (search needs, search needs, search sum-start)
+
+output-part-requires : tie.Need-output-part-requires Inv-loop μ-loop
+output-part-requires c κs = search needs
+
+plus-requires : tie.Need-plus-requires Inv-loop μ-loop
+plus-requires c κs = search needs
+
+add-i : tie.Need-add-i Inv-loop μ-loop
+add-i c = search needs
+
+loop-less : tie.Need-loop-less Inv-loop μ-loop
+loop-less c = search needs
+
+loop-again : tie.Need-loop-again Inv-loop μ-loop
+loop-again c = (search needs, search needs, search sum-next)
+
+returns : tie.Need-returns Inv-loop μ-loop
+returns c = search output-ended
+
+pub week-output-spec : {M : Type 1} → statement M
+week-output-spec =
+    tie.close
+    (tie.spec
+    Inv-loop
+    μ-loop
+    loop-holds
+    output-part-requires
+    plus-requires
+    add-i
+    loop-less
+    loop-again
+    returns)

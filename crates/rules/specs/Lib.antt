@@ -1,0 +1,2 @@
+-- what the tests ask, and first and last weeks of maintenance
+pub mod Gridded

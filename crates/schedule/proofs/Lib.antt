@@ -1,0 +1,2 @@
+-- a schedule laid out byte by byte
+pub mod DrawLaws
