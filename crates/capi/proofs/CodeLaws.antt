@@ -1,7 +1,7 @@
 -- The numbers of answers, case by case, and of answers that are equal.
 -- Assumes nothing.
-use Prim.Native.Nat.{ℕ, _+_}
-use mathlib.Core.Path.{_≡_, _∙_, ap, ap₂}
+use Prim.Native.Nat.{ℕ, _+_, _*_, _<_}
+use mathlib.Core.Path.{_≡_, refl, _∙_, ap, ap₂, subst}
 use mathlib.Core.List.{List}
 use native.Mathlib.Omega.{arith}
 use Rattle.model.specs.Bytes.{loadedInto}
@@ -19,7 +19,13 @@ use Rattle.model.proofs.BoundLaws.{Bounded, judge-bounded}
 use Rattle.checker.specs.Answers.{judgementOf}
 use Rattle.checker.specs.declared.Judgement.{Judgement}
 use Rattle.checker.specs.declared.Judgement.the-variants.{Sound, Breaks, Rejected}
-use Rattle.capi.specs.Codes.{refusedBy, refusedAt, deniedBy, given, judgedCode, judgedPlace}
+use Rattle.quotes.specs.Quotes.{Quoted, none, quoted, denied, costsInto, KeptIfRefused}
+use Rattle.quotes.specs.Answers.{quotedOf}
+use Rattle.quotes.specs.declared.Quote.{Quote}
+use Rattle.quotes.specs.declared.Quote.the-variants as quote
+use Rattle.quotes.specs.declared.Quote.the-variants.{Nothing, Given}
+use Rattle.quotes.proofs.BoundLaws as quotes
+use Rattle.capi.specs.Codes.{refusedBy, refusedAt, deniedBy, given, judgedCode, judgedPlace, quotedCode}
 
 -- ---- by cases
 
@@ -94,6 +100,22 @@ module _ (j : Judgement) where
 
 pub ruleset judgements = (sound-code, sound-place, breaks-code, breaks-place, rejected-code, rejected-place)
 
+module _ (q : Quote) where
+  pub nothing-code : q ≡ Nothing → 4611686018427387904 ≡ quotedCode (quotedOf q)
+  unfolding quotedCode
+  nothing-code e = rw e
+
+  module _ (number b : ℕ) where
+    pub given-code : q ≡ Given number b → b * 4294967296 + number ≡ quotedCode (quotedOf q)
+    unfolding quotedCode
+    given-code e = rw e
+
+    pub refused-code : q ≡ quote.Refused number b → 9223372036854775808 + number ≡ quotedCode (quotedOf q)
+    unfolding quotedCode
+    refused-code e = rw e
+
+pub ruleset quotations = (nothing-code, given-code, refused-code)
+
 -- ---- the same answer has the same numbers
 
 module _ (n : ℕ) (a b : model.Verdict) (e : a ≡ b) where
@@ -117,16 +139,26 @@ module _ (n : ℕ) (a b : judged.Judgement) (e : a ≡ b) where
   pub judgement-place : n ≡ judgedPlace a → n ≡ judgedPlace b
   judgement-place h = h ∙ ap judgedPlace e
 
+pub quote-same : (n : ℕ) (a b : Quoted) → a ≡ b → n ≡ quotedCode a → n ≡ quotedCode b
+quote-same n a b e h = h ∙ ap quotedCode e
+
 -- and leaves the same bytes
 pub verdict-into : (a b : model.Verdict) (p : Problem) (s : Schedule) (bs r : List ℕ) → a ≡ b → r ≡ drawnInto a p s bs → r ≡ drawnInto b p s bs
 verdict-into a b p s bs r e h = h ∙ ap (λ (x : model.Verdict). drawnInto x p s bs) e
+
+-- the same costs, and the same scratch
+pub costs-into : (a b : model.Verdict) (p : Problem) (qs cs r : List ℕ) → a ≡ b → r ≡ costsInto a p qs cs → r ≡ costsInto b p qs cs
+costs-into a b p qs cs r e h = h ∙ ap (λ (x : model.Verdict). costsInto x p qs cs) e
+
+pub scratch-kept : (a b : model.Verdict) (xs ys : List ℕ) → a ≡ b → KeptIfRefused a xs ys → KeptIfRefused b xs ys
+scratch-kept a b xs ys e h = subst (λ (x : model.Verdict). KeptIfRefused x xs ys) e h
 
 -- and the same words
 pub reply-into : (a b : model.Reply) (bs ws r : List ℕ) → a ≡ b → r ≡ loadedInto a bs ws → r ≡ loadedInto b bs ws
 reply-into a b bs ws r e h = h ∙ ap (λ (x : model.Reply). loadedInto x bs ws) e
 
 pub ruleset codes =
-    (verdict-by, verdict-at, reply-by, reply-given, reply-into, judgement-code, judgement-place, verdict-into)
+    (verdict-by, verdict-at, reply-by, reply-given, reply-into, judgement-code, judgement-place, verdict-into, quote-same, costs-into, scratch-kept)
 
 -- ---- a judgement's number and place tell it
 
@@ -147,3 +179,23 @@ codes-tell (judged.rejected m r) (judged.rejected n s) h g e q = ap₂ judged.re
 pub answers-tell : (ws g vs h : List ℕ) → judgedCode (judged.judgeOf ws g) ≡ judgedCode (judged.judgeOf vs h)
     → judgedPlace (judged.judgeOf ws g) ≡ judgedPlace (judged.judgeOf vs h) → judged.judgeOf ws g ≡ judged.judgeOf vs h
 answers-tell ws g vs h = codes-tell (judged.judgeOf ws g) (judged.judgeOf vs h) (judge-bounded ws g) (judge-bounded vs h)
+
+-- ---- a quote's number tells it
+
+-- it is no refusal's
+pub quote-below : (a : Quoted) → quotes.Bounded a → quotedCode a < 9223372036854775808
+unfolding quotedCode
+quote-below none h = omega arith
+quote-below (quoted n c) h = omega (arith, h .0, h .1)
+quote-below (denied n s) h = absurd h
+
+-- and two quotes for accepted files with the same number are the same
+pub quotes-tell : (a b : Quoted) → quotes.Bounded a → quotes.Bounded b → quotedCode a ≡ quotedCode b → a ≡ b
+unfolding quotedCode
+quotes-tell none none h g e = refl
+quotes-tell none (quoted n c) h g e = absurd (omega (arith, g .0, g .1))
+quotes-tell (quoted n c) none h g e = absurd (omega (arith, h .0, h .1))
+quotes-tell (quoted n c) (quoted m d) h g e = ap₂ quoted (omega (arith, h .0, g .0)) (omega (arith, h .0, g .0))
+quotes-tell (denied n s) b h g e = absurd h
+quotes-tell none (denied n s) h g e = absurd g
+quotes-tell (quoted n c) (denied m s) h g e = absurd g

@@ -1,8 +1,9 @@
 -- Answers as plain numbers, case by case, for callers that have no enums.
 -- Assumes nothing.
-use Prim.Native.Nat.{ℕ, _+_}
+use Prim.Native.Nat.{ℕ, _+_, _*_}
 use Rattle.model.specs.Verdict.{Verdict, accepted, refused, Reply, gives, denies}
 use Rattle.model.specs.Judgement.{Judgement, soundAt, breaks, rejected}
+use Rattle.quotes.specs.Quotes.{Quoted, none, quoted, denied}
 
 -- the refusal's number, 0 where the input is accepted
 unfoldable pub refusedBy : Verdict → ℕ
@@ -35,3 +36,9 @@ unfoldable pub judgedPlace : Judgement → ℕ
 judgedPlace (soundAt cost) = 0
 judgedPlace (breaks number) = 0
 judgedPlace (rejected number place) = place
+
+-- the cost times 2 ^ 32 and the number; 2 ^ 62 where there is none; 2 ^ 63 and the refusal's number
+unfoldable pub quotedCode : Quoted → ℕ
+quotedCode none = 4611686018427387904
+quotedCode (quoted number cost) = cost * 4294967296 + number
+quotedCode (denied number place) = 9223372036854775808 + number

@@ -1,6 +1,6 @@
 // The functions that Rust and C link: numbers and slices only, no `requires`. A load, a read or a drawing answers with the refusal's number, 0
 // for none; a load's place is always 0, and a read's has a function of its own. The sizing figure of a refused file is 0. A judgement is
-// one number, and its refusal's place has a function of its own.
+// one number, and its refusal's place has a function of its own. A quote is one number too; its refusals are the file's, so the read's place serves.
 ghost use mathlib.Core.Path.{_≡_};
 ghost use lib.ListN.{length};
 ghost use Rattle.model.specs.Bytes.{loadOf, loadedInto};
@@ -12,7 +12,9 @@ ghost use Rattle.model.specs.Drawing.{drawVerdict, drawnInto};
 ghost use Rattle.model.specs.Judgement.{judgeOf};
 ghost use Rattle.decoder.specs.Answers.{verdictOf, replyOf};
 ghost use Rattle.checker.specs.Answers.{judgementOf};
-ghost use Rattle.capi.specs.Codes.{refusedBy, refusedAt, deniedBy, given, judgedCode, judgedPlace};
+ghost use Rattle.quotes.specs.Quotes.{quoteWith, runQuote, upkeepQuote, costsVerdict, costsInto, KeptIfRefused};
+ghost use Rattle.quotes.specs.Answers.{quotedOf};
+ghost use Rattle.capi.specs.Codes.{refusedBy, refusedAt, deniedBy, given, judgedCode, judgedPlace, quotedCode};
 
 // The number of a verdict's refusal.
 fn refusal_number(v: decoder::Verdict) -> u32
@@ -73,6 +75,17 @@ fn judgement_place(j: checker::Judgement) -> usize
         checker::Judgement::Sound(cost) => 0,
         checker::Judgement::Breaks(number) => 0,
         checker::Judgement::Rejected(number, place) => place,
+    }
+}
+
+// A quote as one number.
+fn quote_code(quote: quotes::Quote) -> u64
+    ensures { λ r. ⌜ r ≡ quotedCode (quotedOf quote) ⌝ }
+{
+    match quote {
+        quotes::Quote::Nothing => 4611686018427387904,
+        quotes::Quote::Given(number, cost) => cost as u64 * 4294967296 + number as u64,
+        quotes::Quote::Refused(number, place) => 9223372036854775808 + number as u64,
     }
 }
 
@@ -148,5 +161,47 @@ pub extern "C" fn novelbrisca_draw(
         (scheduleOf (now (starts .entry)) (now (runs .entry))) (now (grid .entry)) ⌝ }
 {
     let verdict = schedule::draw(words, starts, runs, grid);
+    refusal_number(verdict)
+}
+
+// The cheapest run of a week, from 1, with these units out: its cost times 2^32 and its number, 2^62 where there is none, or 2^63 and the number
+// of the file's refusal. The place is that of `novelbrisca_read_place`.
+#[no_mangle]
+pub extern "C" fn novelbrisca_cheapest_run(words: &[u32], week: usize, out: u32) -> u64
+    ensures { λ r. ⌜ r ≡ quotedCode (quoteWith (readOf (now (words .entry))) (runQuote (problemOf (now (words .entry))) week out)) ⌝ }
+{
+    let quote = quotes::cheapest_run(words, week, out);
+    quote_code(quote)
+}
+
+// What the overhaul of a unit, from 1, costs in maintenance from a permitted start: the cost times 2^32 and the start, 2^62 where there is no
+// such unit or the start is not permitted, or 2^63 and the number of the file's refusal.
+#[no_mangle]
+pub extern "C" fn novelbrisca_upkeep(words: &[u32], unit: usize, start: usize) -> u64
+    ensures { λ r. ⌜ r ≡ quotedCode (quoteWith (readOf (now (words .entry))) (upkeepQuote (problemOf (now (words .entry))) unit start)) ⌝ }
+{
+    let quote = quotes::upkeep(words, unit, start);
+    quote_code(quote)
+}
+
+// What the cheapest runs of queried weeks cost, in the lent words: the refusal's number, 0 where they were written. A query is a week, from 1,
+// times 65,536 and the units out. The place is that of `novelbrisca_read_place` for a refusal of the file, and 0 for 17.
+#[no_mangle]
+pub extern "C" fn novelbrisca_week_costs(
+    words: &[u32],
+    queries: &[u32],
+    scratch: &mut [u32],
+    costs: &mut [u32],
+) -> u32
+    ensures answer { λ r. ⌜ r ≡
+        refusedBy (costsVerdict (now (words .entry)) (length (now (queries .entry))) (length (now (costs .entry)))) ⌝ }
+    ensures buffer { λ r. ⌜ now (costs .exit) ≡
+        costsInto (costsVerdict (now (words .entry)) (length (now (queries .entry))) (length (now (costs .entry))))
+        (problemOf (now (words .entry))) (now (queries .entry)) (now (costs .entry)) ⌝ }
+    ensures lent { λ r. ⌜ KeptIfRefused
+        (costsVerdict (now (words .entry)) (length (now (queries .entry))) (length (now (costs .entry))))
+        (now (scratch .entry)) (now (scratch .exit)) ⌝ }
+{
+    let verdict = quotes::week_costs(words, queries, scratch, costs);
     refusal_number(verdict)
 }

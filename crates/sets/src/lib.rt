@@ -1,8 +1,8 @@
 // Sets of units as the bits of a word: unit i is in the set where bit i is 1.
 ghost use mathlib.Core.Path.{_≡_};
-ghost use mathlib.Core.Bool.{_||_};
+ghost use mathlib.Core.Bool.{_&&_, _||_, not};
 ghost use Prim.Native.Nat.{ℕ, _<_};
-ghost use lib.Dec.{eqb};
+ghost use lib.Dec.{eqb, ltb};
 ghost use Rattle.sums.specs.NumSet.{has};
 
 // Whether the set has unit i.
@@ -19,4 +19,36 @@ pub fn with(set: u32, i: usize) -> u32
     ensures { λ r. ⌜ ((k : ℕ) → has r k ≡ (has set k || eqb k i)) ⌝ }
 {
     set | (1 << i)
+}
+
+// The set without unit i.
+pub fn without(set: u32, i: usize) -> u32
+    requires { ⌜ i < 32 ⌝ }
+    ensures { λ r. ⌜ ((k : ℕ) → has r k ≡ (has set k && not (eqb k i))) ⌝ }
+{
+    let unit = 1 << i;
+    // Once bit i is 1 in both, `^` clears it whether the set had it or not.
+    (set | unit) ^ unit
+}
+
+// The units of either set.
+pub fn union(a: u32, b: u32) -> u32
+    ensures { λ r. ⌜ ((k : ℕ) → has r k ≡ (has a k || has b k)) ⌝ }
+{
+    a | b
+}
+
+// The units that both sets have.
+pub fn intersection(a: u32, b: u32) -> u32
+    ensures { λ r. ⌜ ((k : ℕ) → has r k ≡ (has a k && has b k)) ⌝ }
+{
+    a & b
+}
+
+// The units below n.
+pub fn below(n: usize) -> u32
+    requires { ⌜ n < 32 ⌝ }
+    ensures { λ r. ⌜ ((k : ℕ) → has r k ≡ ltb k n) ⌝ }
+{
+    (1 << n) - 1
 }

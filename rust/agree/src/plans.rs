@@ -163,6 +163,64 @@ pub fn tiny_plan(random: &mut Random, weeks: u32, units: u32) -> Plan {
     plan
 }
 
+/// A plan of the given size for the runs of its weeks: often with few different capacities or
+/// costs, so that runs tie, and with demands that some run just meets or just misses.
+pub fn tied_plan(random: &mut Random, weeks: u32, units: u32) -> Plan {
+    let mut plan = smallest(weeks, units);
+    plan.crews = random.edgy(1, 16);
+    choose_capacities(&mut plan.capacity, random);
+    choose_overhauls(&mut plan, random);
+    for row in plan.maint.iter_mut().chain(&mut plan.running) {
+        choose_costs(row, &plan.capacity, random);
+    }
+    for demand in &mut plan.demand {
+        *demand = tight_demand(&plan.capacity, random);
+    }
+    plan.pairs = random_pairs(random, units);
+    plan
+}
+
+/// All the same, 0 or 1, small, or any.
+fn choose_capacities(capacity: &mut [u32], random: &mut Random) {
+    let same = random.edgy(0, 1_000_000);
+    match random.within(0, 3) {
+        0 => capacity.fill(same),
+        1 => fill(capacity, || random.within(0, 1)),
+        2 => fill(capacity, || random.within(0, 5)),
+        _ => fill(capacity, || random.edgy(0, 1_000_000)),
+    }
+}
+
+/// All the same, 0 or 1, small, the same for each kilogram, or any.
+fn choose_costs(costs: &mut [u32], capacity: &[u32], random: &mut Random) {
+    let same = random.edgy(0, 250_000);
+    match random.within(0, 4) {
+        0 => costs.fill(same),
+        1 => fill(costs, || random.within(0, 1)),
+        2 => fill(costs, || random.within(0, 5)),
+        3 => costs
+            .iter_mut()
+            .zip(capacity)
+            .for_each(|(cost, &capacity)| *cost = capacity.min(250_000)),
+        _ => fill(costs, || random.edgy(0, 250_000)),
+    }
+}
+
+/// What some units give together, or all; a kilogram more; nothing, or the most that is legal.
+fn tight_demand(capacity: &[u32], random: &mut Random) -> u32 {
+    let all: u32 = capacity.iter().sum();
+    let some: u32 = capacity.iter().filter(|_| random.once_in(2)).sum();
+    let demand = match random.within(0, 9) {
+        0 => 0,
+        1 => 16_000_000,
+        2 => all,
+        3 => all + 1,
+        4 | 5 => some + 1,
+        _ => some,
+    };
+    demand.min(16_000_000)
+}
+
 /// Any durations and windows.
 fn choose_overhauls(plan: &mut Plan, random: &mut Random) {
     let weeks = plan.weeks;

@@ -2,7 +2,7 @@
 
 use crate::plans::{largest, random_plan};
 use crate::Random;
-use reference::{lay_out, Plan};
+use reference::{lay_out, permitted_starts, Plan};
 
 /// A plan with a schedule of it.
 #[derive(Clone)]
@@ -145,8 +145,8 @@ fn choose_runs(scheduled: &mut Scheduled, random: &mut Random) {
 /// Every schedule of a small plan, the earlier ones first: each permitted start for each unit, each
 /// number for each week's run, also where it has units that are out.
 pub fn all_schedules(plan: &Plan) -> Vec<Scheduled> {
-    let units = 0..plan.units as usize;
-    let starts: Vec<Vec<u32>> = units.map(|unit| permitted(plan, unit)).collect();
+    let units = 1..=plan.units as usize;
+    let starts: Vec<Vec<u32>> = units.map(|unit| permitted_starts(plan, unit)).collect();
     let runs: Vec<Vec<u32>> = vec![(0..1 << plan.units).collect(); plan.weeks as usize];
     let mut schedules = vec![];
     for starts in lists(&starts) {
@@ -157,12 +157,6 @@ pub fn all_schedules(plan: &Plan) -> Vec<Scheduled> {
         }));
     }
     schedules
-}
-
-/// The permitted starts of a unit, which counts from 0.
-fn permitted(plan: &Plan, unit: usize) -> Vec<u32> {
-    let last = plan.latest[unit].min(plan.weeks + 1 - plan.duration[unit]);
-    (plan.earliest[unit]..=last).collect()
 }
 
 /// Every list that has its first number from the first choices, its second from the second, and so

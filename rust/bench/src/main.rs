@@ -2,21 +2,26 @@
 //! for the change log; no test depends on them.
 
 mod buffers;
+mod generated;
 mod judge;
 mod plain;
 mod plain_judge;
+mod plain_week;
 mod read;
 mod table;
 mod timing;
+mod walk;
+mod week;
 
 use std::process::ExitCode;
 
-const USAGE: &str = "usage: cargo run --release -p bench -- read|judge";
+const USAGE: &str = "usage: cargo run --release -p bench -- read|judge|week";
 
 fn main() -> ExitCode {
     match std::env::args().nth(1).as_deref() {
         Some("read") => read::run(),
         Some("judge") => judge::run(),
+        Some("week") => week::run(),
         _ => {
             eprintln!("{USAGE}");
             return ExitCode::FAILURE;

@@ -46,6 +46,33 @@ mod c {
             grid: *mut u8,
             grid_len: usize,
         ) -> u32;
+        /// The cost × 2^32 and the run's number, 2^62 where there is no run, or 2^63 and the
+        /// refusal's number.
+        pub fn novelbrisca_cheapest_run(
+            words: *const u32,
+            words_len: usize,
+            week: usize,
+            out: u32,
+        ) -> u64;
+        /// The refusal's number, 0 where the costs are written.
+        pub fn novelbrisca_week_costs(
+            words: *const u32,
+            words_len: usize,
+            queries: *const u32,
+            queries_len: usize,
+            scratch: *mut u32,
+            scratch_len: usize,
+            costs: *mut u32,
+            costs_len: usize,
+        ) -> u32;
+        /// The cost × 2^32 and the start, 2^62 where the start is not permitted, or 2^63 and the
+        /// refusal's number.
+        pub fn novelbrisca_upkeep(
+            words: *const u32,
+            words_len: usize,
+            unit: usize,
+            start: usize,
+        ) -> u64;
     }
 }
 
@@ -68,6 +95,22 @@ pub enum Judgement {
     /// The file or the grid is turned away.
     Rejected(Refusal),
 }
+
+/// The cheapest run of a week, as the proved code finds it.
+#[derive(Clone, Copy, Debug, PartialEq, Eq)]
+pub struct CheapestRun {
+    /// The run as a bit mask: bit i-1 for unit i.
+    pub run: u32,
+    /// Its running cost, in euros.
+    pub cost: u64,
+}
+
+/// What [`week_costs`] writes where there is no run.
+pub const NO_RUN: u32 = 1 << 28;
+/// The code of a run or cost that there is not.
+const NONE: u64 = 1 << 62;
+/// The code of a refusal, less its number.
+const REFUSED: u64 = 1 << 63;
 
 /// Writes the words of `bytes` into the lent `words` and says how many they are; the lent words
 /// beyond are kept. Refused (16, 17): every lent word is kept.
@@ -158,5 +201,82 @@ pub fn draw(words: &[u32], starts: &[u32], runs: &[u32], grid: &mut [u8]) -> Res
             number,
             place: read_place(words),
         }),
+    }
+}
+
+/// The cheapest run of a week with the units of `out` out, bit i-1 for unit i; none where the
+/// others together fall short, or where the file has no such week. A refusal takes a second call,
+/// for its place.
+pub fn cheapest_run(words: &[u32], week: usize, out: u32) -> Result<Option<CheapestRun>, Refusal> {
+    // SAFETY: pointer and length are those of a live slice, which is only read.
+    let code = unsafe { c::novelbrisca_cheapest_run(words.as_ptr(), words.len(), week, out) };
+    // a run's number is the lower half
+    let found = |code: u64| CheapestRun {
+        run: code as u32,
+        cost: code >> 32,
+    };
+    given(code, words).map(|code| code.map(found))
+}
+
+/// Writes what the cheapest runs cost that the queries ask for, each a week × 65,536 + a set out,
+/// [`NO_RUN`] where there is none; the lent costs beyond are kept. `scratch` has any length and
+/// any content, and its content afterwards is free. Refused (1 to 7, then 17): every lent cost and
+/// the scratch are kept. A refusal's place is the reader's, which is 0 for 17, since that is given
+/// only for an accepted file.
+pub fn week_costs(
+    words: &[u32],
+    queries: &[u32],
+    scratch: &mut [u32],
+    costs: &mut [u32],
+) -> Result<(), Refusal> {
+    // SAFETY: each pair of pointer and length is that of a live slice, `scratch` and `costs`
+    // uniquely lent.
+    let number = unsafe {
+        c::novelbrisca_week_costs(
+            words.as_ptr(),
+            words.len(),
+            queries.as_ptr(),
+            queries.len(),
+            scratch.as_mut_ptr(),
+            scratch.len(),
+            costs.as_mut_ptr(),
+            costs.len(),
+        )
+    };
+    match number {
+        0 => Ok(()),
+        _ => Err(Refusal {
+            number,
+            place: read_place(words),
+        }),
+    }
+}
+
+/// What the overhaul of a unit costs from a start; none where the start is not permitted, or where
+/// the file has no such unit. A refusal takes a second call, for its place.
+pub fn upkeep(words: &[u32], unit: usize, start: usize) -> Result<Option<u64>, Refusal> {
+    // SAFETY: pointer and length are those of a live slice, which is only read.
+    let code = unsafe { c::novelbrisca_upkeep(words.as_ptr(), words.len(), unit, start) };
+    let cost = |code: u64| {
+        assert_eq!(
+            (code as u32) as usize,
+            start,
+            "the start stands beside its cost"
+        );
+        code >> 32
+    };
+    given(code, words).map(|code| code.map(cost))
+}
+
+/// What a code gives: a number below 2^62, none, or the refusal of the file's words.
+fn given(code: u64, words: &[u32]) -> Result<Option<u64>, Refusal> {
+    match code {
+        ..NONE => Ok(Some(code)),
+        NONE => Ok(None),
+        REFUSED.. => Err(Refusal {
+            number: u32::try_from(code - REFUSED).expect("a refusal's number is small"),
+            place: read_place(words),
+        }),
+        _ => unreachable!("no code lies between 2^62 and 2^63"),
     }
 }

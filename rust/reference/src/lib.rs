@@ -3,22 +3,26 @@
 //! takes the project's reading, so agreement says nothing about that choice.
 //!
 //! Nothing here is taken from the proved code or links it, so that a mistake in one is not
-//! repeated in the other. Start at [`read`], then [`judge`].
+//! repeated in the other. Start at [`read`], then [`judge`], then [`cheapest_run`].
 
+mod commitment;
 mod formulas;
 mod judge;
 mod plan;
 mod reader;
 mod schedule;
 mod sizing;
+mod starts;
 mod words;
 
+pub use commitment::{cheapest_run, run_cost, runs, week_costs, CheapestRun};
 pub use formulas::{broken, cost, MAINT, OFF, ON};
 pub use judge::{judge, judge_input, Judgement};
 pub use plan::{encode, example_a, example_a_words, Plan};
 pub use reader::read;
 pub use schedule::{draw, lay_out};
 pub use sizing::sizing;
+pub use starts::{permitted_starts, upkeep};
 pub use words::{bytes_of, kind_of, load, value_of, word};
 
 /// Why a call was turned away: the listed number and the word's place, from 0 in its own list; a

@@ -78,3 +78,8 @@ pub fn example_a_words() -> Vec<u32> {
         .map(|(kind, value)| word(number(kind), number(value)))
         .collect()
 }
+
+/// Whether a week or unit is one of so many, which count from 1.
+pub(crate) fn counted(count: u32, number: usize) -> bool {
+    1 <= number && number <= count as usize
+}

@@ -1,0 +1,86 @@
+-- A table of 16 places filled one by one: what it holds so far, and how large.
+-- Assumes nothing.
+use Prim.Native.Nat.{ℕ, _+_, _*_, _^_, _≤_, _<_}
+use mathlib.Core.Path.{_≡_, subst}
+use mathlib.Core.List.{List}
+use native.Mathlib.Decide.{ℕ-discrete}
+use native.Mathlib.Nat.{pow-suc}
+use native.Mathlib.Numerals.{add-one}
+use native.Mathlib.Omega.{arith}
+use lib.ListN.{length, getD, set, replicate}
+use lib.Pow.{pow-mono}
+use lib.Seq.{getD-set-same, getD-set-other}
+use Rattle.sums.specs.NumSet.{power}
+use Rattle.sums.proofs.LoopLaws.{zeros-at, place-next}
+use Rattle.model.specs.declared.Layout.{Layout}
+use Rattle.model.specs.Words.{problemOf}
+use Rattle.instance.specs.Filed.{Filed}
+use Rattle.cover.specs.Tables.{entry, Caps, Weights}
+use Rattle.commitment.specs.Score.{weightOf, Column}
+
+-- nothing yet
+pub column-start : (f : ℕ → ℕ) (xs : List ℕ) → Column 0 f xs
+column-start f xs = record { holds = λ i l. absurd (omega arith) }
+
+-- zeros are capacities
+pub caps-start : (n : ℕ) → Caps (replicate n 0)
+unfolding entry
+caps-start n = record { most = λ i. omega (arith, zeros-at n i) }
+
+-- and weights
+pub weights-start : (n : ℕ) → Weights (replicate n 0)
+unfolding entry
+weights-start n = record { most = λ i. omega (arith, zeros-at n i) }
+
+set-most : (xs : List ℕ) (k v most i : ℕ) → k < length xs → entry xs i ≤ most → v ≤ most → entry (set xs k v) i ≤ most
+unfolding entry
+set-most xs k v most i l h m = by (ℕ-discrete i k)
+  where
+    by : Dec (i ≡ k) → getD (set xs k v) i 0 ≤ most
+    by (yes e) = rw (e, getD-set-same xs k v 0 l) m
+    by (no n) = rw (getD-set-other xs k i v 0 n) h
+
+module _ (ws : List ℕ) (l : Layout) (xs : List ℕ) (k v : ℕ) (f : Filed ws l) (long : length xs ≡ 16) (h : k < l .units) where
+  -- one more capacity
+  pub caps-next : Caps xs → v ≤ 1000000 → Caps (set xs k v)
+  caps-next c m = record { most = λ i. set-most xs k v 1000000 i (omega (arith, f .units-most)) (c .most i) m }
+
+  -- one more weight
+  pub weights-next : Weights xs → v ≤ 17179869184 → Weights (set xs k v)
+  weights-next c m = record { most = λ i. set-most xs k v 17179869184 i (omega (arith, f .units-most)) (c .most i) m }
+
+  -- one more place
+  pub column-next : (g : ℕ → ℕ) → Column k g xs → v ≡ g k → Column (k + 1) g (set xs k v)
+  unfolding entry
+  column-next g c e = record { holds = place-next (λ (i x : ℕ). x ≡ g i) xs k v (omega (arith, f .units-most)) e (c .holds) }
+
+-- all of them
+pub column-ended : (f : ℕ → ℕ) (xs : List ℕ) (k n : ℕ) → Column k f xs → k ≤ n → n ≤ k → Column n f xs
+column-ended f xs k n c l m = let e : k ≡ n = omega arith in subst (λ (z : ℕ). Column z f xs) e c
+
+-- ---- the numbers of single units
+
+-- the first
+pub number-start : 1 ≡ power 0
+unfolding power
+number-start = omega arith
+
+-- the next
+pub number-next : (k a r : ℕ) → a ≡ power k → r ≡ a * 2 → r ≡ power (k + 1)
+unfolding power
+number-next k a r e t = rw (add-one, pow-suc) (omega arith)
+
+-- none above that of the 16th
+pub number-most : (ws : List ℕ) (l : Layout) (k a : ℕ) → Filed ws l → k < l .units → a ≡ power k → a ≤ 32768
+unfolding power
+number-most ws l k a f h e =
+    let s : k ≤ 15 = omega (arith, f .units-most) in
+    let m : 2 ^ k ≤ 2 ^ 15 = pow-mono s in
+    omega arith
+
+-- one more weight, as the code makes it
+pub weight-next : (ws : List ℕ) (l : Layout) (xs : List ℕ) (t k c a v : ℕ) → Filed ws l → length xs ≡ 16 → k < l .units
+    → Column k (weightOf (problemOf ws) t) xs → c ≡ problemOf ws .running t k → a ≡ power k → v ≡ c * 65536 + a
+    → Column (k + 1) (weightOf (problemOf ws) t) (set xs k v)
+unfolding weightOf
+weight-next ws l xs t k c a v f long h m e n is = column-next ws l xs k v f long h (weightOf (problemOf ws) t) m (rw (← e, ← n) is)

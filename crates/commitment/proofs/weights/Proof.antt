@@ -1,0 +1,68 @@
+-- `commitment::weights` meets its contract: the places so far hold the units so far, and the number is that of the next.
+-- Assumes nothing.
+use Prim.Native.Nat.{_-_, _≤_}
+use mathlib.Core.Path.{_≡_, refl}
+use lib.ListN.{length}
+use Rattle.sums.specs.NumSet.{power}
+use Rattle.model.specs.Words.{problemOf}
+use Rattle.cover.specs.Tables.{Weights}
+use Rattle.commitment.specs.Score.{weightOf, Column}
+use Rattle.commitment.proofs.ColumnLaws.{column-start, column-ended, weights-start, weight-next, weights-next}
+use Rattle.commitment.proofs.ColumnLaws.{number-start, number-next, number-most}
+use borrow.Author.Needs.{needs}
+use Rattle.commitment.proofs.weights.Statement.{statement}
+use Rattle.commitment.proofs.weights.Tie as tie
+
+abbrev Inv-loop : tie.InvT-loop
+Inv-loop words l t units table₀ number₀ i₀ table number i =
+    (i ≤ units) × ((length table ≡ 16) × ((number ≡ power i) × (Column i (weightOf (problemOf words) t) table × Weights table)))
+
+abbrev μ-loop : tie.MeasureT-loop
+μ-loop words l t units table₀ number₀ i₀ table number i = units - i
+
+loop-holds : tie.Need-loop-holds Inv-loop μ-loop
+loop-holds c = (search needs, (refl, (search number-start, (search column-start, weights-start 16))))
+
+running-cost-requires : tie.Need-running-cost-requires Inv-loop μ-loop
+running-cost-requires c κs = search needs
+
+weight-requires : tie.Need-weight-requires Inv-loop μ-loop
+weight-requires c κs = (search needs, search number-most)
+
+mul-table : tie.Need-mul-table Inv-loop μ-loop
+mul-table c = search needs
+
+array-write-table : tie.Need-array-write-table Inv-loop μ-loop
+array-write-table c = search needs
+
+next-number-requires : tie.Need-next-number-requires Inv-loop μ-loop
+next-number-requires c κs = search number-most
+
+add-i : tie.Need-add-i Inv-loop μ-loop
+add-i c = search needs
+
+loop-less : tie.Need-loop-less Inv-loop μ-loop
+loop-less c = search needs
+
+loop-again : tie.Need-loop-again Inv-loop μ-loop
+loop-again c = (search needs, (search needs, (search number-next, (search weight-next, search weights-next))))
+
+returns : tie.Need-returns Inv-loop μ-loop
+returns c = (search column-ended, search needs)
+
+pub weights-spec : {M : Type 1} → statement M
+weights-spec =
+    tie.close
+    (tie.spec
+    Inv-loop
+    μ-loop
+    loop-holds
+    running-cost-requires
+    weight-requires
+    mul-table
+    array-write-table
+    next-number-requires
+    add-i
+    loop-less
+    loop-again
+    returns)

@@ -1,0 +1,124 @@
+-- `cover::walk` meets its contract, by recursion on the number of units left: each cut leaves the choice as it is, and each turn is the definition's.
+-- Assumes nothing.
+use Prim.Native.Nat.{ℕ, _-_, _<_}
+use native.Mathlib.Omega.{arith}
+use borrow.Author.Needs.{needs}
+use borrow.Fn.Kinds.{In}
+use borrow.Fn.PlainCycle.{Measures, is, falls, and}
+use Rattle.cover.proofs.TableLaws.{cut-dear, cut-room, cut-rate, need-small, gain-small, leaf, turn-out, turn-in, weight-more}
+use Rattle.cover.proofs.walk.Reads as walk
+use Rattle.cover.proofs.walk.Kinds as walk-kinds
+use Rattle.cover.proofs.+walk.Lts-walk as walk-lts
+use Rattle.cover.proofs.hopeless.Reads as hopeless-reads
+use Rattle.cover.proofs.less.Reads as less-reads
+use Rattle.sets.proofs.has.Reads as has-reads
+use Rattle.cover.proofs.+walk.{statement}
+use Rattle.cover.proofs.+walk.Tie.{close}
+
+abbrev μ-walk : Measures 4 walk-kinds.ps ℕ
+μ-walk κs a = a .1 .1 .1 .1 .1 .1 .0
+
+abbrev walk-at : ℕ → In 4 walk-kinds.ps
+walk-at t = and 4 walk-kinds.ps (is 4 walk-kinds.ps μ-walk t) walk.Pre
+
+abbrev walk-below : ℕ → In 4 walk-kinds.ps
+walk-below t = and 4 walk-kinds.ps (falls 4 walk-kinds.ps _<_ μ-walk t) walk.Pre
+
+-- what the walk asks of its callees and learns from them, itself among them
+abbrev claims : ℕ → walk-lts.Claims
+claims t =
+    (hopeless-reads.Asked, hopeless-reads.Learnt, walk-below t, walk.Post, has-reads.Asked, has-reads.Learnt, less-reads.Asked, less-reads.Learnt)
+
+walk-returns : (t : ℕ) → walk-lts.Need-returns (claims t) (walk-at t) walk.Post
+walk-returns t c = (cut-dear _ _ _ _ _ _ _ (search needs), search needs)
+
+walk-mul-if2 : (t : ℕ) → walk-lts.Need-mul-if2 (claims t) (walk-at t) walk.Post
+walk-mul-if2 t c = search needs
+
+walk-element-copy-out-if2 : (t : ℕ) → walk-lts.Need-element-copy-out-if2 (claims t) (walk-at t) walk.Post
+walk-element-copy-out-if2 t c = search needs
+
+walk-returns-2 : (t : ℕ) → walk-lts.Need-returns-2 (claims t) (walk-at t) walk.Post
+walk-returns-2 t c = (search cut-room, search needs)
+
+walk-mul-hopeless : (t : ℕ) → walk-lts.Need-mul-hopeless (claims t) (walk-at t) walk.Post
+walk-mul-hopeless t c = search needs
+
+walk-element-copy-out-hopeless : (t : ℕ) → walk-lts.Need-element-copy-out-hopeless (claims t) (walk-at t) walk.Post
+walk-element-copy-out-hopeless t c = search needs
+
+walk-hopeless-requires : (t : ℕ) → walk-lts.Need-hopeless-requires (claims t) (walk-at t) walk.Post
+walk-hopeless-requires t c κs = ((search needs, search gain-small, search need-small), search needs)
+
+walk-returns-3 : (t : ℕ) → walk-lts.Need-returns-3 (claims t) (walk-at t) walk.Post
+walk-returns-3 t c = (search cut-rate, search needs)
+
+walk-returns-4 : (t : ℕ) → walk-lts.Need-returns-4 (claims t) (walk-at t) walk.Post
+walk-returns-4 t c = (search leaf, search needs)
+
+walk-sub-top : (t : ℕ) → walk-lts.Need-sub-top (claims t) (walk-at t) walk.Post
+walk-sub-top t c = search needs
+
+walk-walk-requires : (t : ℕ) → walk-lts.Need-walk-requires (claims t) (walk-at t) walk.Post
+walk-walk-requires t c κs = (search needs, (search needs, search needs))
+
+walk-has-requires : (t : ℕ) → walk-lts.Need-has-requires (claims t) (walk-at t) walk.Post
+walk-has-requires t c κs = search needs
+
+walk-returns-5 : (t : ℕ) → walk-lts.Need-returns-5 (claims t) (walk-at t) walk.Post
+walk-returns-5 t c = (search turn-out, search needs)
+
+walk-mul-walk : (t : ℕ) → walk-lts.Need-mul-walk (claims t) (walk-at t) walk.Post
+walk-mul-walk t c = search needs
+
+walk-element-copy-out-walk : (t : ℕ) → walk-lts.Need-element-copy-out-walk (claims t) (walk-at t) walk.Post
+walk-element-copy-out-walk t c = search needs
+
+walk-less-requires : (t : ℕ) → walk-lts.Need-less-requires (claims t) (walk-at t) walk.Post
+walk-less-requires t c κs = search needs
+
+walk-mul-walk-2 : (t : ℕ) → walk-lts.Need-mul-walk-2 (claims t) (walk-at t) walk.Post
+walk-mul-walk-2 t c = search needs
+
+walk-element-copy-out-walk-2 : (t : ℕ) → walk-lts.Need-element-copy-out-walk-2 (claims t) (walk-at t) walk.Post
+walk-element-copy-out-walk-2 t c = search needs
+
+walk-add-walk : (t : ℕ) → walk-lts.Need-add-walk (claims t) (walk-at t) walk.Post
+walk-add-walk t c =
+    let a = c .before .before .before .before .before .before .before .before .before .before .before .before .before .before in
+    let lighter = c .before .before .before .before .before .before .before .before .before .before .before .before .before .if1 .left in
+    omega (arith, weight-more _ _ _ _ _ _ (a .args .k - 1) _ _ (a .pre .1 .0) lighter (a .pre .1 .1 .1))
+
+walk-walk-requires-2 : (t : ℕ) → walk-lts.Need-walk-requires-2 (claims t) (walk-at t) walk.Post
+walk-walk-requires-2 t c κs =
+    let a = c .before .before .before .before .before .before .before .before .before .before .before .before .before .before in
+    (search needs, (a .pre .1 .0, search needs))
+
+walk-returns-6 : (t : ℕ) → walk-lts.Need-returns-6 (claims t) (walk-at t) walk.Post
+walk-returns-6 t c = (search turn-in, search needs)
+
+pub +walk-spec : {M : Type 1} → statement M
++walk-spec = close μ-walk λ t. walk-lts.spec (claims t)
+    (walk-at t)
+    walk.Post
+    (walk-returns t)
+    (walk-mul-if2 t)
+    (walk-element-copy-out-if2 t)
+    (walk-returns-2 t)
+    (walk-mul-hopeless t)
+    (walk-element-copy-out-hopeless t)
+    (walk-hopeless-requires t)
+    (walk-returns-3 t)
+    (walk-returns-4 t)
+    (walk-sub-top t)
+    (walk-walk-requires t)
+    (walk-has-requires t)
+    (walk-returns-5 t)
+    (walk-mul-walk t)
+    (walk-element-copy-out-walk t)
+    (walk-less-requires t)
+    (walk-mul-walk-2 t)
+    (walk-element-copy-out-walk-2 t)
+    (walk-add-walk t)
+    (walk-walk-requires-2 t)
+    (walk-returns-6 t)

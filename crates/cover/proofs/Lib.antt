@@ -1,0 +1,4 @@
+-- covers, and the choice among them
+pub mod CoverLaws
+-- the tables and cuts
+pub mod TableLaws

@@ -1,0 +1,43 @@
+-- The tables of numbers that the choice of a cover reads: what units give and weigh, and the sums over the free units that cut it.
+-- Assumes nothing.
+use Prim.Native.Nat.{ℕ, _-_, _*_, _≤_}
+use mathlib.Core.Path.{_≡_}
+use mathlib.Core.Bool.{not, _&&_}
+use mathlib.Core.List.{List}
+use lib.ListN.{getD}
+use Rattle.sums.specs.Sum.{sumTo}
+use Rattle.sums.specs.NumSet.{NumSet, pick, away, has}
+
+-- the number at a place of a table, 0 past its end
+unfoldable pub entry : List ℕ → ℕ → ℕ
+entry xs i = getD xs i 0
+
+-- capacities, in kilograms, as a file may have them
+pub record Caps (xs : List ℕ) : Type 0 where
+  pub most : (i : ℕ) → entry xs i ≤ 1000000
+
+-- weights up to 2 ^ 34, which keeps every sum and product in a word of 64 bits
+pub record Weights (xs : List ℕ) : Type 0 where
+  pub most : (i : ℕ) → entry xs i ≤ 17179869184
+
+-- the places of a table up to n hold the sums of f over the free units below
+pub record SumsTo (free : NumSet) (f : ℕ → ℕ) (n : ℕ) (table : List ℕ) : Type 0 where
+  pub holds : (k : ℕ) → k ≤ n → entry table k ≡ sumTo k (pick free f)
+
+-- what unit i yields above its weight, at a rate for a kilogram (in the field, a Lagrange multiplier of the need)
+unfoldable pub surplus : ℕ → (gives weighs : ℕ → ℕ) → ℕ → ℕ
+surplus rate gives weighs i = rate * gives i - weighs i
+
+-- the units of a guess that are not out
+unfoldable pub spared : (out guess : ℕ) → NumSet
+spared out guess i = has guess i && not (has out i)
+
+-- all that the walk is lent
+pub record Ready (out rate : ℕ) (caps weights room gain : List ℕ) : Type 0 where
+  pub caps-fit : Caps caps
+  pub weights-fit : Weights weights
+  pub rate-most : rate ≤ 17179869184
+  -- what the free units below k give together
+  pub rooms : SumsTo (away (has out)) (entry caps) 16 room
+  -- what they yield together above their weights
+  pub gains : SumsTo (away (has out)) (surplus rate (entry caps) (entry weights)) 16 gain

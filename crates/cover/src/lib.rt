@@ -1,0 +1,301 @@
+// A need covered by free units at the least weight. The choice goes depth first from the highest unit down, each left out before it is taken, and is
+// cut where the units left cannot suffice, or cannot get below the best. Sets of units are the bits of a word; tables have a place for each of 16.
+use instance::Kilo;
+ghost use mathlib.Core.Path.{_≡_};
+ghost use Prim.Native.Nat.{_+_, _-_, _*_, _<_, _≤_};
+ghost use lib.Dec.{leb};
+ghost use Rattle.sums.specs.Sum.{sumTo};
+ghost use Rattle.sums.specs.NumSet.{has, away, pick};
+ghost use Rattle.cover.specs.Cover.{UNCOVERED, Candidate, Least, coverTo};
+ghost use Rattle.cover.specs.Tables.{entry, Caps, Weights, SumsTo, surplus, spared, Ready};
+
+// Advice on a cover: a rate, the weight to be charged for a kilogram, and a guess at the units, which may have units that are out. It decides the
+// time that is taken, and nothing else.
+struct Advice {
+    rate: u64,
+    guess: u32,
+}
+
+// What is still needed when more is given.
+fn less(need: Kilo, more: Kilo) -> Kilo
+    ensures { λ r. ⌜ r .0 ≡ need .0 - more .0 ⌝ }
+{
+    if need.0 < more.0 {
+        return Kilo(0);
+    }
+    Kilo(need.0 - more.0)
+}
+
+// a - b, 0 where b is larger.
+fn above(a: u64, b: u64) -> u64
+    ensures { λ r. ⌜ r ≡ a - b ⌝ }
+{
+    if a < b {
+        return 0;
+    }
+    a - b
+}
+
+// a / b, 0 where b is 0.
+fn ratio(a: u64, b: u64) -> u64
+    ensures { λ r. ⌜ r ≤ a ⌝ }
+{
+    if b == 0 {
+        return 0;
+    }
+    a / b
+}
+
+// Unit i where it is lighter for a kilogram than the unit found so far, else that one. 16 stands for none; units in `used` and units that give
+// nothing do not count.
+fn lighter(caps: &[u64; 16], weights: &[u64; 16], used: u32, i: usize, found: usize) -> usize
+    requires { ⌜ Caps (now caps) × Weights (now weights) ⌝ }
+    requires { ⌜ (i < 16) × (found ≤ 16) ⌝ }
+    ensures { λ r. ⌜ r ≤ 16 ⌝ }
+{
+    if sets::has(used, i) {
+        return found;
+    }
+    if caps[i] == 0 {
+        return found;
+    }
+    if found == 16 {
+        return i;
+    }
+    if weights[i] * caps[found] < weights[found] * caps[i] {
+        return i;
+    }
+    found
+}
+
+// The unit that is lightest for a kilogram among those not in `used`, 16 where none gives anything.
+fn lightest(caps: &[u64; 16], weights: &[u64; 16], used: u32) -> usize
+    requires { ⌜ Caps (now caps) × Weights (now weights) ⌝ }
+    ensures { λ r. ⌜ r ≤ 16 ⌝ }
+{
+    let mut found = 16;
+    for i in 0..16 {
+        found = lighter(caps, weights, used, i, found);
+    }
+    found
+}
+
+// Takes the units that are lightest for a kilogram until they give what is needed.
+fn advise(caps: &[u64; 16], weights: &[u64; 16], u: usize, out: u32, need: Kilo) -> Advice
+    requires { ⌜ Caps (now caps) × Weights (now weights) ⌝ }
+    ensures { λ r. ⌜ r .rate ≤ 17179869184 ⌝ }
+{
+    // The units out count as taken, so that none of them is; when the guess is weighed they are left out again.
+    let mut guess = out;
+    let mut rate = 0;
+    let mut left = need;
+    for n in 0..u {
+        if left.0 == 0 {
+            break;
+        }
+        let i = lightest(caps, weights, guess);
+        if i == 16 {
+            break;
+        }
+        rate = ratio(weights[i], caps[i]);
+        guess = sets::with(guess, i);
+        left = less(left, Kilo(caps[i]));
+    }
+    Advice { rate, guess }
+}
+
+// What unit i adds to a sum over the units of a guess that are not out.
+fn spared_part(table: &[u64; 16], out: u32, guess: u32, i: usize) -> u64
+    requires { ⌜ i < 16 ⌝ }
+    ensures { λ r. ⌜ r ≡ pick (spared out guess) (entry (now (table .entry))) i ⌝ }
+{
+    if sets::has(out, i) {
+        return 0;
+    }
+    if sets::has(guess, i) {
+        return table[i];
+    }
+    0
+}
+
+// What the units of a guess that are not out give together, of those below u.
+fn guess_output(caps: &[u64; 16], u: usize, out: u32, guess: u32) -> Kilo
+    requires { ⌜ Caps (now caps) ⌝ }
+    requires { ⌜ u ≤ 16 ⌝ }
+    ensures { λ r. ⌜ r .0 ≡ sumTo u (pick (spared out guess) (entry (now (caps .entry)))) ⌝ }
+{
+    let mut sum = Kilo(0);
+    for i in 0..u {
+        sum = sum.plus(Kilo(spared_part(caps, out, guess, i)));
+    }
+    sum
+}
+
+// What they weigh together.
+fn guess_weight(weights: &[u64; 16], u: usize, out: u32, guess: u32) -> u64
+    requires { ⌜ Weights (now weights) ⌝ }
+    requires { ⌜ u ≤ 16 ⌝ }
+    ensures { λ r. ⌜ r ≡ sumTo u (pick (spared out guess) (entry (now (weights .entry)))) ⌝ }
+{
+    let mut sum = 0;
+    for i in 0..u {
+        sum += spared_part(weights, out, guess, i);
+    }
+    sum
+}
+
+// What the guess weighs without the units that are out, where that is a cover with units below u.
+fn guessed(caps: &[u64; 16], weights: &[u64; 16], u: usize, out: u32, guess: u32, need: Kilo) -> u64
+    requires { ⌜ Caps (now caps) × Weights (now weights) ⌝ }
+    requires { ⌜ u ≤ 16 ⌝ }
+    ensures { λ r. ⌜ Candidate (away (has out)) (entry (now (caps .entry))) (entry (now (weights .entry))) u (need .0) r ⌝ }
+{
+    let given = guess_output(caps, u, out, guess);
+    if given.0 < need.0 {
+        // 2^44 stands for no cover.
+        return 17592186044416;
+    }
+    guess_weight(weights, u, out, guess)
+}
+
+// What unit i gives where it is not out.
+fn free_capacity(caps: &[u64; 16], out: u32, i: usize) -> Kilo
+    requires { ⌜ i < 16 ⌝ }
+    ensures { λ r. ⌜ r .0 ≡ pick (away (has out)) (entry (now (caps .entry))) i ⌝ }
+{
+    if sets::has(out, i) {
+        return Kilo(0);
+    }
+    Kilo(caps[i])
+}
+
+// For each k, what the free units below k give together.
+fn rooms(caps: &[u64; 16], out: u32) -> [u64; 17]
+    requires { ⌜ Caps (now caps) ⌝ }
+    ensures { λ r. ⌜ SumsTo (away (has out)) (entry (now (caps .entry))) 16 r ⌝ }
+{
+    let mut room: [u64; 17] = [0; 17];
+    let mut sum = Kilo(0);
+    let mut k: usize = 0;
+    while k < 16 {
+        sum = sum.plus(free_capacity(caps, out, k));
+        k += 1;
+        room[k] = sum.0;
+    }
+    room
+}
+
+// What unit i yields above its weight where it is not out, at the rate for a kilogram.
+fn free_surplus(caps: &[u64; 16], weights: &[u64; 16], rate: u64, out: u32, i: usize) -> u64
+    requires { ⌜ Caps (now caps) ⌝ }
+    requires { ⌜ (rate ≤ 17179869184) × (i < 16) ⌝ }
+    ensures { λ r. ⌜ r ≡ pick (away (has out)) (surplus rate (entry (now (caps .entry))) (entry (now (weights .entry)))) i ⌝ }
+{
+    if sets::has(out, i) {
+        return 0;
+    }
+    above(rate * caps[i], weights[i])
+}
+
+// For each k, what the free units below k yield together above their weights.
+fn gains(caps: &[u64; 16], weights: &[u64; 16], rate: u64, out: u32) -> [u64; 17]
+    requires { ⌜ Caps (now caps) ⌝ }
+    requires { ⌜ rate ≤ 17179869184 ⌝ }
+    ensures { λ r. ⌜ SumsTo (away (has out)) (surplus rate (entry (now (caps .entry))) (entry (now (weights .entry)))) 16 r ⌝ }
+{
+    let mut gain: [u64; 17] = [0; 17];
+    let mut sum: u64 = 0;
+    let mut k: usize = 0;
+    while k < 16 {
+        sum += free_surplus(caps, weights, rate, out, k);
+        k += 1;
+        gain[k] = sum;
+    }
+    gain
+}
+
+// Whether no cover from here can get below the best. Charge the rate for every kilogram still needed: free units repay at most the gain, so the rest
+// of a cover weighs at least the rate times the need, less the gain.
+fn hopeless(rate: u64, gain: u64, need: Kilo, weight: u64, best: u64) -> bool
+    requires { ⌜ (rate ≤ 17179869184) × (gain ≤ 274877906944000000) × (need .0 ≤ 16000000) ⌝ }
+    requires { ⌜ (weight < best) × (best ≤ UNCOVERED) ⌝ }
+    ensures { λ r. ⌜ r ≡ leb (best + gain) (weight + rate * need .0) ⌝ }
+{
+    best + gain <= weight + rate * need.0
+}
+
+// The best weight after all choices among the units below k, where those taken so far have this weight and leave this need.
+fn walk(
+    caps: &[u64; 16],
+    weights: &[u64; 16],
+    room: &[u64; 17],
+    gain: &[u64; 17],
+    rate: u64,
+    out: u32,
+    k: usize,
+    need: Kilo,
+    weight: u64,
+    best: u64,
+) -> u64
+    requires { ⌜ Ready out rate (now caps) (now weights) (now room) (now gain) ⌝ }
+    requires { ⌜ (k ≤ 16) × (best ≤ UNCOVERED) ⌝ }
+    ensures { λ r. ⌜ (r ≡ coverTo (away (has out)) (entry (now (caps .entry))) (entry (now (weights .entry))) k (need .0) weight best)
+        × (r ≤ best) ⌝ }
+{
+    if best <= weight {
+        return best;
+    }
+    if room[k] < need.0 {
+        return best;
+    }
+    if hopeless(rate, gain[k], need, weight, best) {
+        return best;
+    }
+    if k == 0 {
+        // No unit is left, so the room is 0, and so is the need.
+        return weight;
+    }
+    let top = k - 1;
+    let low = walk(
+        caps,
+        weights,
+        room,
+        gain,
+        rate,
+        out,
+        top,
+        need,
+        weight,
+        best,
+    );
+    if sets::has(out, top) {
+        return low;
+    }
+    let rest = less(need, Kilo(caps[top]));
+    walk(
+        caps,
+        weights,
+        room,
+        gain,
+        rate,
+        out,
+        top,
+        rest,
+        weight + weights[top],
+        low,
+    )
+}
+
+// The least weight of a cover with units below u that are not out.
+pub fn least(caps: &[u64; 16], weights: &[u64; 16], u: usize, out: u32, need: Kilo) -> u64
+    requires { ⌜ Caps (now caps) × Weights (now weights) ⌝ }
+    requires { ⌜ u ≤ 16 ⌝ }
+    ensures { λ r. ⌜ Least (away (has out)) (entry (now (caps .entry))) (entry (now (weights .entry))) u (need .0) r ⌝ }
+{
+    let advice = advise(caps, weights, u, out, need);
+    let rate = advice.rate;
+    let start = guessed(caps, weights, u, out, advice.guess, need);
+    let room = rooms(caps, out);
+    let gain = gains(caps, weights, rate, out);
+    walk(caps, weights, &room, &gain, rate, out, u, need, 0, start)
+}

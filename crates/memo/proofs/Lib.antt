@@ -1,0 +1,2 @@
+-- an entry found, an entry written, and a memory without entries
+pub mod EntryLaws

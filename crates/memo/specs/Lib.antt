@@ -1,0 +1,2 @@
+-- keys, and what the memory may hold
+pub mod Memo

@@ -1,0 +1,47 @@
+-- The permitted starts of a unit are a range: from its earliest to its latest, or to the last from which its overhaul ends in time.
+-- Assumes nothing.
+use Prim.Native.Nat.{ℕ, _+_, _-_, _≤_, min}
+use mathlib.Core.Path.{_≡_}
+use mathlib.Core.Bool.{_&&_}
+use mathlib.Core.List.{List}
+use native.Mathlib.Omega.{arith}
+use lib.Dec.{leb}
+use borrow.Author.Tests.{leb-true, le-leb}
+use Rattle.sums.proofs.LogicLaws.{and-of, and-left, and-right, same-test}
+use Rattle.model.specs.declared.Layout.{Layout}
+use Rattle.model.specs.Problem.{Problem}
+use Rattle.model.specs.Words.{problemOf}
+use Rattle.model.specs.Domain.{permitted}
+use Rattle.model.proofs.DomainLaws.{permits-from, permits-to, permits-ends, permits-of}
+use Rattle.instance.specs.Filed.{Filed}
+use Rattle.instance.proofs.FiledLaws.{weeks-are}
+use Rattle.overhaul.specs.Range.{lastStart, StartRange}
+
+-- of any problem, where the overhaul fits into the season
+range-of : (p : Problem) (i b : ℕ) → p .duration i ≤ p .weeks → b ≡ min (p .latest i) (p .weeks - p .duration i + 1)
+    → (s : ℕ) → permitted p i s ≡ (leb (p .earliest i) s && leb s b)
+range-of p i b h e s =
+    let a : ℕ = p .earliest i in
+    same-test (permitted p i s) (leb a s && leb s b)
+    (λ t. and-of (leb a s) (leb s b) (le-leb a s (permits-from p i s t)) (le-leb s b (omega (arith, permits-to p i s t, permits-ends p i s t))))
+    (λ t.
+    let m = leb-true s b (and-right (leb a s) (leb s b) t) in
+    permits-of p i s (leb-true a s (and-left (leb a s) (leb s b) t)) (omega arith) (omega arith))
+
+module _ (ws : List ℕ) (l : Layout) (i a b d last : ℕ) where
+  -- of a file's problem, by its figures as they are read
+  pub starts-range : Filed ws l → a ≡ problemOf ws .earliest i → b ≡ problemOf ws .latest i → d ≡ problemOf ws .duration i → d ≤ l .weeks
+      → last ≡ min b (l .weeks - d + 1) → StartRange (problemOf ws) i a last
+  starts-range f ea eb ed h e = record {
+    exact = rw ea (range-of (problemOf ws) i last (rw (weeks-are ws l f, ← ed) h) (rw (weeks-are ws l f, ← eb, ← ed) e));
+  }
+
+-- the last of them
+pub last-is : (ws : List ℕ) (l : Layout) (i b d last : ℕ) → Filed ws l → b ≡ problemOf ws .latest i → d ≡ problemOf ws .duration i
+    → last ≡ min b (l .weeks - d + 1) → last ≡ lastStart (problemOf ws) i
+unfolding lastStart
+last-is ws l i b d last f eb ed e = rw (weeks-are ws l f, ← eb, ← ed) e
+
+-- none lies after the season
+pub last-within : (w b c last : ℕ) → last ≡ min b c → b ≤ w → last ≤ w
+last-within w b c last e h = omega arith

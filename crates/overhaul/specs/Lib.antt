@@ -1,0 +1,2 @@
+-- the permitted starts of a unit as a range
+pub mod Range

@@ -1,0 +1,254 @@
+//! Instances after section 4.3 of source document 000: capacities, durations and costs normally
+//! distributed, a demand that peaks in the middle of the season, and maintenance costs that go from
+//! 10,000 euros in the first week to a figure of each unit's own in the last.
+
+use agree::Random;
+use reference::Plan;
+use std::f64::consts::PI;
+
+/// What an instance is drawn from.
+#[derive(Clone, Copy)]
+pub struct Scheme {
+    /// The number of weeks.
+    pub weeks: u32,
+    /// The number of units.
+    pub units: u32,
+    /// The number of crews.
+    pub crews: u32,
+    /// The seed; equal schemes give equal instances.
+    pub seed: u64,
+    /// The demand in the first and the last week, in thousandths of all capacity.
+    pub low: f64,
+    /// The demand at the peak, likewise.
+    pub high: f64,
+    /// The capacities of the units.
+    pub capacity: Normal,
+    /// The durations of the overhauls.
+    pub duration: Normal,
+    /// How many starts a window leaves; 0 for windows that are open all season.
+    pub window: u32,
+    /// The deviation of a maintenance cost from its curve.
+    pub maint_deviation: f64,
+    /// The deviation of a running cost from 5,000 euros.
+    pub running_deviation: f64,
+    /// How many pairs are excluded.
+    pub pairs: usize,
+}
+
+/// A normal distribution.
+#[derive(Clone, Copy)]
+pub struct Normal {
+    /// Its mean.
+    pub mean: f64,
+    /// Its standard deviation.
+    pub deviation: f64,
+}
+
+impl Default for Scheme {
+    fn default() -> Self {
+        Scheme {
+            weeks: 13,
+            units: 15,
+            crews: 3,
+            seed: 1,
+            low: 600.0,
+            high: 720.0,
+            capacity: Normal::new(200.0, 25.0),
+            duration: Normal::new(2.0, 1.0),
+            window: 0,
+            maint_deviation: 1000.0,
+            running_deviation: 2000.0,
+            pairs: 2,
+        }
+    }
+}
+
+impl Scheme {
+    /// The instance. Its figures are drawn in the order in which they stand here.
+    pub fn plan(&self) -> Plan {
+        let mut draws = Draws::seeded(self.seed);
+        let half = (f64::from(self.weeks) / 2.0).max(1.0);
+        let capacity = draws.list(self.units, |draws| draws.value(self.capacity, 1.0, 1e6));
+        let duration = draws.list(self.units, |draws| draws.value(self.duration, 1.0, half));
+        let windows = self.windows(&duration, &mut draws);
+        Plan {
+            weeks: self.weeks,
+            units: self.units,
+            crews: self.crews,
+            demand: self.demand(&capacity),
+            earliest: windows.iter().map(|window| window.0).collect(),
+            latest: windows.iter().map(|window| window.1).collect(),
+            maint: self.maint(&mut draws),
+            running: self.running(&mut draws),
+            pairs: self.pairs(&mut draws),
+            capacity,
+            duration,
+        }
+    }
+
+    /// Each week's demand: up to the peak in mid-season, and down again.
+    fn demand(&self, capacity: &[u32]) -> Vec<u32> {
+        let total: f64 = capacity.iter().map(|&capacity| f64::from(capacity)).sum();
+        let weeks = f64::from(self.weeks);
+        let (low, high) = (self.low / 1000.0 * total, self.high / 1000.0 * total);
+        let curve = [(0.0, low), (weeks / 2.0, high), (weeks - 1.0, low)];
+        (0..self.weeks)
+            .map(|week| clipped(on_curve(&curve, f64::from(week)), 0.0, 16e6))
+            .collect()
+    }
+
+    /// Each unit's earliest and latest week.
+    fn windows(&self, duration: &[u32], draws: &mut Draws) -> Vec<(u32, u32)> {
+        let window = |&duration: &u32| {
+            if self.window == 0 {
+                return (1, self.weeks);
+            }
+            let last = self.weeks - duration + 1;
+            let starts = self.window.min(last);
+            let earliest = draws.0.within(1, last - starts + 1);
+            (earliest, earliest + starts - 1)
+        };
+        duration.iter().map(window).collect()
+    }
+
+    /// Maintenance costs around each unit's curve.
+    fn maint(&self, draws: &mut Draws) -> Vec<Vec<u32>> {
+        let ends = draws.list(self.units, |draws| 7000 + 3000 * draws.0.within(0, 4));
+        let last = f64::from(self.weeks) - 1.0;
+        let cost = |week: u32, end: u32, draws: &mut Draws| {
+            let curve = [(0.0, 10_000.0), (last, f64::from(end))];
+            let mean = on_curve(&curve, f64::from(week));
+            draws.value(Normal::new(mean, self.maint_deviation), 0.0, 250_000.0)
+        };
+        (0..self.weeks)
+            .map(|week| ends.iter().map(|&end| cost(week, end, draws)).collect())
+            .collect()
+    }
+
+    /// Running costs, the same for all units but for chance.
+    fn running(&self, draws: &mut Draws) -> Vec<Vec<u32>> {
+        let costs = Normal::new(5000.0, self.running_deviation);
+        (0..self.weeks)
+            .map(|_| draws.list(self.units, |draws| draws.value(costs, 0.0, 250_000.0)))
+            .collect()
+    }
+
+    /// Excluded pairs, all different, rising.
+    fn pairs(&self, draws: &mut Draws) -> Vec<(u32, u32)> {
+        let most = (self.units * (self.units - 1) / 2) as usize;
+        let mut pairs = vec![];
+        while pairs.len() < self.pairs.min(most) {
+            let a = draws.0.within(1, self.units);
+            let b = draws.0.within(1, self.units);
+            if a < b && !pairs.contains(&(a, b)) {
+                pairs.push((a, b));
+            }
+        }
+        pairs.sort_unstable();
+        pairs
+    }
+}
+
+impl Normal {
+    /// The distribution of a mean and a standard deviation.
+    pub const fn new(mean: f64, deviation: f64) -> Self {
+        Normal { mean, deviation }
+    }
+}
+
+/// The generator that all figures of an instance come from.
+struct Draws(Random);
+
+impl Draws {
+    fn seeded(seed: u64) -> Self {
+        let mut random = Random::seeded(seed ^ 0xAB_CDEF);
+        for _ in 0..8 {
+            random.bits();
+        }
+        Draws(random)
+    }
+
+    /// As many values, each drawn after the one before.
+    fn list(&mut self, count: u32, mut value: impl FnMut(&mut Self) -> u32) -> Vec<u32> {
+        (0..count).map(|_| value(self)).collect()
+    }
+
+    /// A whole number from `low` to `high`, normally distributed between them.
+    fn value(&mut self, normal: Normal, low: f64, high: f64) -> u32 {
+        // two numbers of the unit interval give one of the normal distribution
+        let (a, b) = (self.unit(), self.unit());
+        let deviate = normal.deviation * (-2.0 * a.ln()).sqrt() * (2.0 * PI * b).cos();
+        clipped(normal.mean + deviate, low, high)
+    }
+
+    /// A number between 0 and 1, neither of them.
+    fn unit(&mut self) -> f64 {
+        ((self.0.bits() >> 11) as f64 + 0.5) / (1u64 << 53) as f64
+    }
+}
+
+fn clipped(value: f64, low: f64, high: f64) -> u32 {
+    value.round().max(low).min(high) as u32
+}
+
+/// The value at `at` of the curve through points that rise: straight between them, level outside.
+fn on_curve(points: &[(f64, f64)], at: f64) -> f64 {
+    if at <= points[0].0 {
+        return points[0].1;
+    }
+    let straight = points.windows(2).find(|ends| at <= ends[1].0);
+    straight.map_or(points[points.len() - 1].1, |ends| {
+        let ((from, low), (to, high)) = (ends[0], ends[1]);
+        low + (high - low) * (at - from) / (to - from)
+    })
+}
+
+#[cfg(test)]
+mod tests {
+    use super::{Normal, Scheme};
+    use reference::{bytes_of, encode, read};
+
+    /// The FNV-1a sum of a list of bytes.
+    fn checksum(bytes: &[u8]) -> u64 {
+        bytes.iter().fold(0xCBF2_9CE4_8422_2325, |sum, &byte| {
+            (sum ^ u64::from(byte)).wrapping_mul(0x0100_0000_01B3)
+        })
+    }
+
+    /// Panics unless the instance is accepted and its file has so many words and this sum.
+    fn check(scheme: Scheme, count: usize, sum: u64) {
+        let words = encode(&scheme.plan());
+        assert_eq!(read(&words), Ok(scheme.plan()));
+        assert_eq!(words.len(), count);
+        assert_eq!(checksum(&bytes_of(&words)), sum);
+    }
+
+    /// Figures of different days are of the same instances. The figures come from `ln` and `cos`, so
+    /// on another platform one may round otherwise.
+    #[test]
+    fn instances_stay_as_they_were() {
+        check(Scheme::default(), 454, 0x1E00_8D65_3871_B444);
+        let mid = Scheme {
+            weeks: 20,
+            units: 16,
+            seed: 11_620,
+            ..Scheme::default()
+        };
+        check(mid, 714, 0x315B_760D_C95F_8F97);
+        let odd = Scheme {
+            units: 7,
+            crews: 2,
+            seed: 7,
+            low: 500.0,
+            high: 620.0,
+            capacity: Normal::new(300.0, 80.0),
+            duration: Normal::new(4.0, 1.5),
+            window: 5,
+            maint_deviation: 0.0,
+            running_deviation: 300.0,
+            pairs: 9,
+            ..Scheme::default()
+        };
+        check(odd, 229, 0xDA56_41E0_98C9_0350);
+    }
+}
