@@ -4,6 +4,7 @@ use Prim.Native.Nat.{ℕ, _+_, _*_, _<_}
 use mathlib.Core.Path.{_≡_, refl, _∙_, ap, ap₂, subst}
 use mathlib.Core.List.{List}
 use native.Mathlib.Omega.{arith}
+use lib.ListN.{length}
 use Rattle.model.specs.Bytes.{loadedInto}
 use Rattle.model.specs.Verdict as model
 use Rattle.decoder.specs.Answers.{verdictOf, replyOf}
@@ -14,6 +15,8 @@ use Rattle.decoder.specs.declared.Reply.the-variants.{Number, Denied}
 use Rattle.model.specs.Problem.{Problem}
 use Rattle.model.specs.Schedule.{Schedule}
 use Rattle.model.specs.Drawing.{drawnInto}
+use Rattle.model.specs.Refusal.{runVerdict}
+use Rattle.model.specs.Asks.{Outcome, Ran}
 use Rattle.model.specs.Judgement as judged
 use Rattle.model.proofs.BoundLaws.{Bounded, judge-bounded}
 use Rattle.checker.specs.Answers.{judgementOf}
@@ -152,6 +155,13 @@ costs-into a b p qs cs r e h = h ∙ ap (λ (x : model.Verdict). costsInto x p q
 
 pub scratch-kept : (a b : model.Verdict) (xs ys : List ℕ) → a ≡ b → KeptIfRefused a xs ys → KeptIfRefused b xs ys
 scratch-kept a b xs ys e h = subst (λ (x : model.Verdict). KeptIfRefused x xs ys) e h
+
+-- the same outcome of an ask
+pub ask-outcome : (a : model.Verdict) (file asks answers₀ table₀ scratch₀ answers table scratch : List ℕ)
+    → Ran a file asks answers₀ table₀ scratch₀ answers table scratch
+    → Outcome (runVerdict file asks (length table₀) (length answers₀) (length scratch₀)) file asks answers₀ table₀ scratch₀ answers table scratch
+ask-outcome a file asks answers₀ table₀ scratch₀ answers table scratch r =
+    subst (λ (v : model.Verdict). Outcome v file asks answers₀ table₀ scratch₀ answers table scratch) (r .told) (r .outcome)
 
 -- and the same words
 pub reply-into : (a b : model.Reply) (bs ws r : List ℕ) → a ≡ b → r ≡ loadedInto a bs ws → r ≡ loadedInto b bs ws

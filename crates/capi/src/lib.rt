@@ -10,10 +10,13 @@ ghost use Rattle.model.specs.Sizing.{sizingOf};
 ghost use Rattle.model.specs.Schedule.{scheduleOf};
 ghost use Rattle.model.specs.Drawing.{drawVerdict, drawnInto};
 ghost use Rattle.model.specs.Judgement.{judgeOf};
+ghost use Rattle.model.specs.Refusal.{runVerdict};
+ghost use Rattle.model.specs.Asks.{Outcome};
 ghost use Rattle.decoder.specs.Answers.{verdictOf, replyOf};
 ghost use Rattle.checker.specs.Answers.{judgementOf};
 ghost use Rattle.quotes.specs.Quotes.{quoteWith, runQuote, upkeepQuote, costsVerdict, costsInto, KeptIfRefused};
 ghost use Rattle.quotes.specs.Answers.{quotedOf};
+ghost use Rattle.planner.specs.Block.{askWords};
 ghost use Rattle.capi.specs.Codes.{refusedBy, refusedAt, deniedBy, given, judgedCode, judgedPlace, quotedCode};
 
 // The number of a verdict's refusal.
@@ -204,4 +207,41 @@ pub extern "C" fn novelbrisca_week_costs(
 {
     let verdict = quotes::week_costs(words, queries, scratch, costs);
     refusal_number(verdict)
+}
+
+// One ask, a ceiling and a budget of tries, answered in the lent words: the refusal's number, 0 where it was answered.
+#[no_mangle]
+pub extern "C" fn novelbrisca_ask(
+    words: &[u32],
+    ceiling: u32,
+    budget: u32,
+    answer: &mut [u32],
+    table: &mut [u32],
+    scratch: &mut [u32],
+) -> u32
+    ensures answer { λ r. ⌜ r ≡ refusedBy (runVerdict (now (words .entry)) (askWords ceiling budget)
+        (length (now (table .entry))) (length (now (answer .entry))) (length (now (scratch .entry)))) ⌝ }
+    ensures lent { λ r. ⌜ Outcome (runVerdict (now (words .entry)) (askWords ceiling budget)
+        (length (now (table .entry))) (length (now (answer .entry))) (length (now (scratch .entry))))
+        (now (words .entry)) (askWords ceiling budget) (now (answer .entry)) (now (table .entry)) (now (scratch .entry))
+        (now (answer .exit)) (now (table .exit)) (now (scratch .exit)) ⌝ }
+{
+    let verdict = planner::ask(words, ceiling, budget, answer, table, scratch);
+    refusal_number(verdict)
+}
+
+// The place of that refusal, 0 where the ask is answered; lent memory by its numbers of words.
+#[no_mangle]
+pub extern "C" fn novelbrisca_ask_place(
+    words: &[u32],
+    ceiling: u32,
+    budget: u32,
+    answer: usize,
+    table: usize,
+    scratch: usize,
+) -> usize
+    ensures { λ r. ⌜ r ≡ refusedAt (runVerdict (now (words .entry)) (askWords ceiling budget) table answer scratch) ⌝ }
+{
+    let verdict = planner::run_verdict(words, ceiling, budget, table, answer, scratch);
+    refusal_place(verdict)
 }

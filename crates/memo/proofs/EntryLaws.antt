@@ -1,14 +1,14 @@
 -- The memory's entries: emptied, found and written.
 -- Assumes nothing.
 use Prim.Native.Nat.{ℕ, _+_, _*_, _/_, _≤_, _<_}
-use mathlib.Core.Path.{_≡_, refl, sym, ap, _∙_, subst}
+use mathlib.Core.Path.{_≡_, sym, ap, _∙_, subst}
 use mathlib.Core.List.{List}
 use native.Mathlib.Decide.{ℕ-discrete}
 use native.Mathlib.Omega.{arith}
-use lib.ListN.{getD, set, length, replicate, length-set, length-replicate}
-use lib.Seq.{getD-set-same, getD-set-other, ext-getD}
+use lib.ListN.{getD, set, length, replicate, length-set}
+use lib.Seq.{getD-set-same, getD-set-other}
 use Rattle.sums.specs.NumSet.{has}
-use Rattle.sums.proofs.LoopLaws.{zeros-at, place-next}
+use Rattle.sums.proofs.LoopLaws.{zeros-at}
 use Rattle.model.specs.declared.Layout.{Layout}
 use Rattle.model.specs.Problem.{Problem}
 use Rattle.model.specs.Words.{problemOf}
@@ -18,24 +18,6 @@ use Rattle.commitment.proofs.ScoreLaws.{least-small}
 use Rattle.memo.specs.Memo.{keyOf, Right}
 
 -- ---- an emptied memory
-
--- the words below k are 0
-pub record EmptyTo (k : ℕ) (memo : List ℕ) : Type 0 where
-  pub zeros : (j : ℕ) → j < k → getD memo j 0 ≡ 0
-
--- none yet
-pub empty-start : (memo : List ℕ) → EmptyTo 0 memo
-empty-start memo = record { zeros = λ j l. absurd (omega arith) }
-
--- one more
-pub empty-next : (memo : List ℕ) (k n : ℕ) → EmptyTo k memo → k < n → length memo ≡ n → EmptyTo (k + 1) (set memo k 0)
-empty-next memo k n h l e = record { zeros = place-next (λ (i x : ℕ). x ≡ 0) memo k 0 (omega arith) refl (h .zeros) }
-
--- all of them
-pub empty-ended : (memo lent : List ℕ) (k n : ℕ) → EmptyTo k memo → n ≤ k → length memo ≡ n → length lent ≡ n → memo ≡ replicate (length lent) 0
-empty-ended memo lent k n h l e q =
-    let z : length memo ≡ length (replicate {A = ℕ} (length lent) 0) = omega (arith, length-replicate {A = ℕ} (length lent) 0) in
-    ext-getD 0 memo (replicate (length lent) 0) z (λ j b. h .zeros j (omega arith) ∙ sym (zeros-at (length lent) j))
 
 -- it is right: 0 is no key
 pub right-empty : (p : Problem) (memo : List ℕ) (n : ℕ) → memo ≡ replicate n 0 → Right p memo

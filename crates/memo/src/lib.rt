@@ -15,10 +15,7 @@ ghost use Rattle.memo.specs.Memo.{keyOf, Right};
 pub fn clear(memo: &mut [u32])
     ensures { λ r. ⌜ now (memo .exit) ≡ replicate (length (now (memo .entry))) 0 ⌝ }
 {
-    let n = memo.len();
-    for k in 0..n {
-        memo[k] = 0;
-    }
+    lent::clear(memo)
 }
 
 // The key of week t and the units out, never 0.

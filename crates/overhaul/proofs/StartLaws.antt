@@ -1,17 +1,20 @@
 -- The permitted starts of a unit are a range: from its earliest to its latest, or to the last from which its overhaul ends in time.
 -- Assumes nothing.
-use Prim.Native.Nat.{ℕ, _+_, _-_, _≤_, min}
+use Prim.Native.Nat.{ℕ, zero, suc, _+_, _-_, _≤_, _<_, min}
 use mathlib.Core.Path.{_≡_}
 use mathlib.Core.Bool.{_&&_}
 use mathlib.Core.List.{List}
+use native.Mathlib.Decide.{decLe}
 use native.Mathlib.Omega.{arith}
 use lib.Dec.{leb}
-use borrow.Author.Tests.{leb-true, le-leb}
-use Rattle.sums.proofs.LogicLaws.{and-of, and-left, and-right, same-test}
+use borrow.Author.Tests.{leb-true, le-leb, lt-leb}
+use Rattle.sums.specs.Logic.{if}
+use Rattle.sums.specs.Range.{countTo}
+use Rattle.sums.proofs.LogicLaws.{and-of, and-left, and-right, and-last-false, same-test}
 use Rattle.model.specs.declared.Layout.{Layout}
 use Rattle.model.specs.Problem.{Problem}
 use Rattle.model.specs.Words.{problemOf}
-use Rattle.model.specs.Domain.{permitted}
+use Rattle.model.specs.Domain.{permitted, startsBelow, startCount}
 use Rattle.model.proofs.DomainLaws.{permits-from, permits-to, permits-ends, permits-of}
 use Rattle.instance.specs.Filed.{Filed}
 use Rattle.instance.proofs.FiledLaws.{weeks-are}
@@ -45,3 +48,27 @@ last-is ws l i b d last f eb ed e = rw (weeks-are ws l f, ← eb, ← ed) e
 -- none lies after the season
 pub last-within : (w b c last : ℕ) → last ≡ min b c → b ≤ w → last ≤ w
 last-within w b c last e h = omega arith
+
+-- ---- how many there are
+
+module _ (p : Problem) (i first last : ℕ) (range : StartRange p i first last) where
+  -- of a range of permitted starts so many lie below n
+  counted-range : (n : ℕ) → startsBelow p i n ≡ min n (last + 1) - first
+  unfolding startsBelow countTo
+  counted-range zero = omega arith
+  counted-range (suc n) = by (decLe first n) (decLe n last) (counted-range n)
+    where
+      by : Dec (first ≤ n) → Dec (n ≤ last) → countTo n (permitted p i) ≡ min n (last + 1) - first
+          → countTo n (permitted p i) + if (permitted p i n) 1 0 ≡ min (suc n) (last + 1) - first
+      by (yes a) (yes b) ih = rw (range .exact n, le-leb first n a, le-leb n last b) (omega arith)
+      by (yes a) (no b) ih = let h : last < n = omega arith in rw (range .exact n, lt-leb n last h, and-last-false (leb first n)) (omega arith)
+      by (no a) b ih = let h : n < first = omega arith in rw (range .exact n, lt-leb first n h) (omega arith)
+
+  -- below a start of the range
+  pub below-start : (v : ℕ) → v ≤ last + 1 → startsBelow p i v ≡ v - first
+  below-start v h = omega (arith, counted-range v)
+
+  -- all of them
+  pub start-count : last ≤ p .weeks → startCount p i ≡ last + 1 - first
+  unfolding startCount
+  start-count h = omega (arith, counted-range (p .weeks + 1))

@@ -1,7 +1,9 @@
 //! What the tests of the proved code against the reference share: files to read, ways to damage
-//! them, grids to judge, queries on weeks, and the comparisons. The tests are in `tests`, one file
-//! a subject.
+//! them, grids to judge, queries on weeks, asks, and the comparisons. The tests are in `tests`, one
+//! file a subject.
 
+mod asking;
+mod asks;
 mod breaches;
 mod compare;
 mod damage;
@@ -13,16 +15,19 @@ mod random;
 mod runs;
 mod schedules;
 
+pub use asking::{
+    asked_plan, dirty_buffers, dirty_table, leave_no_start, telling_budgets, telling_ceilings, MOST,
+};
+pub use asks::{proved_ask, Answers, AskAnswer, AskedFile, Buffers};
 pub use breaches::{breaches, Case};
 pub use compare::{proved_verdict, Counts, Verdict};
 pub use damage::{edited, near, random_from, recounted, replacements};
 pub use grids::{all_grids, cells_of, edited_grid, random_grid};
 pub use judgements::{proved_judgement, Judgements};
-pub use plans::{
-    all_pairs, border_plans, largest, random_plan, small_plans, smallest, tied_plan, tiny_plan,
-};
+pub use plans::{all_pairs, border_plans, largest, random_plan, small_plans, tied_plan, tiny_plan};
 pub use queries::{all_queries, dirty_scratch, query, random_queries};
 pub use random::Random;
+pub use reference::smallest;
 pub use runs::{proved_run, RunAnswer, Runs};
 pub use schedules::{
     all_schedules, fitted, in_twos, random_scheduled, staggered, together, Scheduled,

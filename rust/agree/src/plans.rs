@@ -1,12 +1,7 @@
 //! Plans whose files are accepted: smallest, largest, at the borders of the ranges, random.
 
 use crate::Random;
-use reference::{example_a, Plan};
-
-/// A plan of the given size in which every other value is the smallest that is legal.
-pub fn smallest(weeks: u32, units: u32) -> Plan {
-    filled(weeks, units, 1, 0, (1, 1), 1)
-}
+use reference::{example_a, smallest, Plan};
 
 /// The plan with the longest file: 52 weeks, 16 units, 120 pairs, every value the largest.
 pub fn largest() -> Plan {

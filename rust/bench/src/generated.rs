@@ -203,6 +203,35 @@ fn on_curve(points: &[(f64, f64)], at: f64) -> f64 {
     })
 }
 
+/// A small plan of its own for each seed, for tests: of every size up to 5 weeks and 4 units, with
+/// costs in whole 4,000 euros, so that many are equal, or all 0, and some with a unit that has no
+/// permitted start.
+#[cfg(test)]
+pub fn small_plan(seed: u64) -> Plan {
+    let digit = |place: u64, count: u64| (seed / place % count) as u32;
+    let scheme = Scheme {
+        weeks: digit(1, 5) + 1,
+        units: digit(5, 4) + 1,
+        crews: digit(20, 4) + 1,
+        seed,
+        low: 0.0,
+        high: f64::from(150 * digit(1, 4)),
+        window: digit(2, 5),
+        pairs: digit(1, 7) as usize / 2,
+        ..Scheme::default()
+    };
+    let mut plan = scheme.plan();
+    let euros = if digit(1, 19) == 0 { 250_001 } else { 4000 };
+    for cost in plan.maint.iter_mut().chain(&mut plan.running).flatten() {
+        *cost /= euros;
+    }
+    if digit(1, 13) == 0 {
+        plan.duration[0] = plan.weeks.min(2);
+        (plan.earliest[0], plan.latest[0]) = (plan.weeks, plan.weeks);
+    }
+    plan
+}
+
 #[cfg(test)]
 mod tests {
     use super::{Normal, Scheme};

@@ -1,10 +1,12 @@
 //! Times the proved code beside plain Rust twins on the same inputs, in one run. The figures are
 //! for the change log; no test depends on them.
 
+mod ask;
 mod buffers;
 mod generated;
 mod judge;
 mod plain;
+mod plain_ask;
 mod plain_judge;
 mod plain_week;
 mod read;
@@ -15,13 +17,14 @@ mod week;
 
 use std::process::ExitCode;
 
-const USAGE: &str = "usage: cargo run --release -p bench -- read|judge|week";
+const USAGE: &str = "usage: cargo run --release -p bench -- read|judge|week|ask";
 
 fn main() -> ExitCode {
     match std::env::args().nth(1).as_deref() {
         Some("read") => read::run(),
         Some("judge") => judge::run(),
         Some("week") => week::run(),
+        Some("ask") => ask::run(),
         _ => {
             eprintln!("{USAGE}");
             return ExitCode::FAILURE;

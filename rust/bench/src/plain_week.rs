@@ -28,6 +28,14 @@ pub fn scanned_costs(words: &[u32], queries: &[u32], costs: &mut [u32]) -> Resul
     write_costs(words, queries, costs, Week::scan)
 }
 
+/// The cheapest run that a query on an accepted file asks for, by a search: its cost and its
+/// number; none where there is no run, or no such week.
+pub fn cheapest(words: &[u32], query: u32) -> Option<(u32, u32)> {
+    let score = Search::new(&Week::of(words, query)?).least();
+    let run = ((score / NUMBERS) as u32, (score % NUMBERS) as u32);
+    (score < NO_SCORE).then_some(run)
+}
+
 fn write_costs(
     words: &[u32],
     queries: &[u32],

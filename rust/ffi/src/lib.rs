@@ -73,6 +73,29 @@ mod c {
             unit: usize,
             start: usize,
         ) -> u64;
+        /// The refusal's number, 0 where the ask is answered.
+        pub fn novelbrisca_ask(
+            words: *const u32,
+            words_len: usize,
+            ceiling: u32,
+            budget: u32,
+            answer: *mut u32,
+            answer_len: usize,
+            table: *mut u32,
+            table_len: usize,
+            scratch: *mut u32,
+            scratch_len: usize,
+        ) -> u32;
+        /// The refusal's place, 0 where the ask is answered; lent memory by its numbers of words.
+        pub fn novelbrisca_ask_place(
+            words: *const u32,
+            words_len: usize,
+            ceiling: u32,
+            budget: u32,
+            answer: usize,
+            table: usize,
+            scratch: usize,
+        ) -> usize;
     }
 }
 
@@ -266,6 +289,52 @@ pub fn upkeep(words: &[u32], unit: usize, start: usize) -> Result<Option<u64>, R
         code >> 32
     };
     given(code, words).map(|code| code.map(cost))
+}
+
+/// Answers one ask, a ceiling and a budget of tries: writes its block into the first words of
+/// `answer`, and those beyond are kept; leaves conflicts in `table`, and 0 elsewhere. `table` and
+/// `scratch` have any content before, and `scratch` any afterwards. Refused (1 to 7, then 9 or 10
+/// for the ask's own words, then 13 to 15): every lent word is kept.
+pub fn ask(
+    words: &[u32],
+    ceiling: u32,
+    budget: u32,
+    answer: &mut [u32],
+    table: &mut [u32],
+    scratch: &mut [u32],
+) -> Result<(), Refusal> {
+    // SAFETY: each pair of pointer and length is that of a live slice, `answer`, `table` and
+    // `scratch` uniquely lent.
+    let number = unsafe {
+        c::novelbrisca_ask(
+            words.as_ptr(),
+            words.len(),
+            ceiling,
+            budget,
+            answer.as_mut_ptr(),
+            answer.len(),
+            table.as_mut_ptr(),
+            table.len(),
+            scratch.as_mut_ptr(),
+            scratch.len(),
+        )
+    };
+    if number == 0 {
+        return Ok(());
+    }
+    // SAFETY: pointer and length are those of a live slice.
+    let place = unsafe {
+        c::novelbrisca_ask_place(
+            words.as_ptr(),
+            words.len(),
+            ceiling,
+            budget,
+            answer.len(),
+            table.len(),
+            scratch.len(),
+        )
+    };
+    Err(Refusal { number, place })
 }
 
 /// What a code gives: a number below 2^62, none, or the refusal of the file's words.

@@ -3,9 +3,12 @@
 //! takes the project's reading, so agreement says nothing about that choice.
 //!
 //! Nothing here is taken from the proved code or links it, so that a mistake in one is not
-//! repeated in the other. Start at [`read`], then [`judge`], then [`cheapest_run`].
+//! repeated in the other. Start at [`read`], then [`judge`], then [`cheapest_run`], then
+//! [`Survey`] and [`check_block`].
 
+mod asks;
 mod commitment;
+mod conflicts;
 mod formulas;
 mod judge;
 mod plan;
@@ -13,16 +16,20 @@ mod reader;
 mod schedule;
 mod sizing;
 mod starts;
+mod survey;
 mod words;
 
+pub use asks::{accept, block_len, check_block, mark_of, runs_of, starts_of, Ask, Lent, Status};
 pub use commitment::{cheapest_run, run_cost, runs, week_costs, CheapestRun};
+pub use conflicts::{check_final, conflicts, is_true, Conflict};
 pub use formulas::{broken, cost, MAINT, OFF, ON};
 pub use judge::{judge, judge_input, Judgement};
-pub use plan::{encode, example_a, example_a_words, Plan};
+pub use plan::{encode, example_a, example_a_words, smallest, Plan};
 pub use reader::read;
 pub use schedule::{draw, lay_out};
 pub use sizing::sizing;
 pub use starts::{permitted_starts, upkeep};
+pub use survey::{Place, Schedule, Survey};
 pub use words::{bytes_of, kind_of, load, value_of, word};
 
 /// Why a call was turned away: the listed number and the word's place, from 0 in its own list; a

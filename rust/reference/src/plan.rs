@@ -67,6 +67,24 @@ pub fn example_a() -> Plan {
     }
 }
 
+/// A plan of the given size with the smallest legal values.
+pub fn smallest(weeks: u32, units: u32) -> Plan {
+    let (by_week, by_unit) = (weeks as usize, units as usize);
+    Plan {
+        weeks,
+        units,
+        crews: 1,
+        demand: vec![0; by_week],
+        capacity: vec![0; by_unit],
+        earliest: vec![1; by_unit],
+        latest: vec![1; by_unit],
+        duration: vec![1; by_unit],
+        maint: vec![vec![0; by_unit]; by_week],
+        running: vec![vec![0; by_unit]; by_week],
+        pairs: vec![],
+    }
+}
+
 /// File A of the worked figures, as the words that document 01 prints.
 pub fn example_a_words() -> Vec<u32> {
     let printed = "1:3 2:2 3:1 4:10 4:10 4:10 5:10 6:67 7:1 5:15 6:67 7:1 \

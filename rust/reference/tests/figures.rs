@@ -2,26 +2,8 @@
 
 use reference::{
     broken, bytes_of, encode, example_a, example_a_words, judge, lay_out, load, read, sizing,
-    Judgement, Plan, Refusal, MAINT, OFF, ON,
+    smallest, Judgement, Plan, Refusal, MAINT, OFF, ON,
 };
-
-/// A plan of the given size with the smallest legal values.
-fn smallest(weeks: u32, units: u32) -> Plan {
-    let (by_week, by_unit) = (weeks as usize, units as usize);
-    Plan {
-        weeks,
-        units,
-        crews: 1,
-        demand: vec![0; by_week],
-        capacity: vec![0; by_unit],
-        earliest: vec![1; by_unit],
-        latest: vec![1; by_unit],
-        duration: vec![1; by_unit],
-        maint: vec![vec![0; by_unit]; by_week],
-        running: vec![vec![0; by_unit]; by_week],
-        pairs: vec![],
-    }
-}
 
 /// The costs of the sound ones among all grids of a plan.
 fn sound_costs(plan: &Plan) -> Vec<u64> {

@@ -1,27 +1,27 @@
--- `memo::clear` meets its contract: the words so far are 0.
+-- `lent::clear` meets its contract: the words so far are 0.
 -- Assumes nothing.
 use Prim.Native.Nat.{_-_, _≤_}
 use mathlib.Core.Path.{_≡_}
 use lib.ListN.{length}
-use Rattle.memo.proofs.EntryLaws.{EmptyTo, empty-start, empty-next, empty-ended}
+use Rattle.lent.proofs.EmptyLaws.{EmptyTo, empty-start, empty-next, empty-ended}
 use borrow.Author.Needs.{needs}
-use Rattle.memo.proofs.clear.Statement.{statement}
-use Rattle.memo.proofs.clear.Tie as tie
+use Rattle.lent.proofs.clear.Statement.{statement}
+use Rattle.lent.proofs.clear.Tie as tie
 
 abbrev Inv-loop : tie.InvT-loop
-Inv-loop memo₀ n k₀ memo k = (k ≤ n) × ((length memo ≡ n) × ((length memo₀ ≡ n) × EmptyTo k memo))
+Inv-loop words₀ n k₀ words k = (k ≤ n) × ((length words ≡ n) × ((length words₀ ≡ n) × EmptyTo k words))
 
 abbrev μ-loop : tie.MeasureT-loop
-μ-loop memo₀ n k₀ memo k = n - k
+μ-loop words₀ n k₀ words k = n - k
 
 loop-holds : tie.Need-loop-holds Inv-loop μ-loop
 loop-holds c = (search needs, (search needs, (search needs, search empty-start)))
 
-mul-memo : tie.Need-mul-memo Inv-loop μ-loop
-mul-memo c = search needs
+mul-words : tie.Need-mul-words Inv-loop μ-loop
+mul-words c = search needs
 
-slice-write-memo : tie.Need-slice-write-memo Inv-loop μ-loop
-slice-write-memo c = search needs
+slice-write-words : tie.Need-slice-write-words Inv-loop μ-loop
+slice-write-words c = search needs
 
 add-k : tie.Need-add-k Inv-loop μ-loop
 add-k c = search needs
@@ -45,8 +45,8 @@ clear-spec =
     Inv-loop
     μ-loop
     loop-holds
-    mul-memo
-    slice-write-memo
+    mul-words
+    slice-write-words
     add-k
     loop-less
     loop-again

@@ -1,0 +1,198 @@
+-- The lower bound with prices, and with none: what every sound schedule with the starts of some units costs at least.
+-- Assumes nothing.
+use Prim.Native.Nat.{ℕ, zero, suc, _+_, _≤_, _<_}
+use mathlib.Core.Path.{_≡_, refl, sym, _∙_, ap}
+use mathlib.Core.Bool.{Bool, true, false}
+use mathlib.Core.Logic.{⊎-elim}
+use native.Mathlib.Nat.{eq-or-lt-of-le, le-of-suc-le-suc}
+use native.Mathlib.Omega.{arith}
+use borrow.Author.Tests.{lt-ltb, le-ltb}
+use Rattle.sums.specs.Logic.{if}
+use Rattle.sums.specs.Sum.{sumTo, added, turned, rowSum}
+use Rattle.sums.specs.NumSet.{NumSet, pick}
+use Rattle.sums.proofs.LogicLaws.{and-left, and-right}
+use Rattle.sums.proofs.SumLaws.{sum-mono, sum-same, sum-zero, sum-added, exchange}
+use Rattle.sums.proofs.NumSetLaws.{sum-split}
+use Rattle.model.specs.Problem.{Problem, Fair}
+use Rattle.model.specs.Schedule.{Schedule, inSpan, outIn}
+use Rattle.model.specs.Commitment.{Pick, nothing, picked, IsPick, Serves, runCost, outCost, pickCost, leastCost, cheapestRun}
+use Rattle.model.specs.Plan.{Plan, upkeep, upkeepAt, runCostAt, planCost}
+use Rattle.model.proofs.CommitmentLaws.{fewer-out, cheapest-right}
+use Rattle.model.proofs.ScheduleLaws.{sound-plan, cost-plan}
+use Rattle.blame.specs.Closed.{Agree, Closed}
+use Rattle.blame.specs.Placed.{firstUnits, outOf, placed, weekPaid, paid}
+use Rattle.blame.specs.Priced.{priced, noPrices, prices, unitBound, lowerBound, LeastPriced, WeekLeast}
+
+-- ---- sums
+
+pick-added : (a : NumSet) (f g : ℕ → ℕ) (k : ℕ) → pick a (added f g) k ≡ added (pick a f) (pick a g) k
+unfolding pick added
+pick-added a f g k = go (a k)
+  where
+    go : (b : Bool) → if b (f k + g k) 0 ≡ if b (f k) 0 + if b (g k) 0
+    go true = refl
+    go false = refl
+
+sum-pick-added : (n : ℕ) (a : NumSet) (f g : ℕ → ℕ) → sumTo n (pick a (added f g)) ≡ sumTo n (pick a f) + sumTo n (pick a g)
+sum-pick-added n a f g = sum-same n (pick a (added f g)) (added (pick a f) (pick a g)) (λ k l. pick-added a f g k) ∙ sum-added n (pick a f) (pick a g)
+
+-- terms that are those of g below k and those of h from k on
+sum-front : (k n : ℕ) (f g h : ℕ → ℕ) → k ≤ n → ((i : ℕ) → i < k → f i ≡ g i) → ((i : ℕ) → k ≤ i → i < n → f i ≡ h i)
+    → sumTo n f + sumTo k h ≡ sumTo k g + sumTo n h
+unfolding sumTo
+sum-front zero zero f g h le low high = refl
+sum-front (suc k) zero f g h le low high = absurd (omega arith)
+sum-front k (suc n) f g h le low high =
+    ⊎-elim
+    (λ (e : k ≡ suc n). rw e (ap (λ (a : ℕ). a + sumTo (suc n) h) (sum-same (suc n) f g (λ i l. low i (omega arith)))))
+    (λ (l : k < suc n).
+    let m : k ≤ n = le-of-suc-le-suc l in
+    omega (arith, sum-front k n f g h m low (λ i a b. high i a (omega arith)), high n m (omega arith)))
+    (eq-or-lt-of-le le)
+
+-- ---- a week's cheapest run
+
+-- a run with these units out, and others, costs no less than the cheapest with these out
+pub least-below : (p : Problem) (t : ℕ) (a out : NumSet) (r : ℕ) → ((i : ℕ) → i < p .units → a i ≡ true → out i ≡ true) → Serves p t out r
+    → leastCost p t a ≤ runCost p t r
+unfolding leastCost pickCost
+least-below p t a out r fewer serves = go (cheapestRun p t a) (cheapest-right p t a)
+  where
+    go : (f : Pick) → IsPick p t a f → pickCost p t f ≤ runCost p t r
+    go nothing none = absurd (none r (fewer-out p t a out fewer r serves))
+    go (picked q) c = c .least r (fewer-out p t a out fewer r serves)
+
+-- so at any prices its cost is a bound of the week
+pub week-plain : (p : Problem) (u : ℕ → ℕ → ℕ) (t : ℕ) (a : NumSet) → WeekLeast p u t a (leastCost p t a)
+week-plain p u t a = record { below = λ out r compatible more serves. omega (arith, least-below p t a out r more serves) }
+
+-- ---- the bound, at any prices
+
+-- prices of the units that are out in week t
+abbrev outPrice : Problem → (ℕ → ℕ → ℕ) → (ℕ → ℕ) → ℕ → ℕ → ℕ
+outPrice p u starts t = pick (outIn p starts t) (u t)
+
+module _ (p : Problem) (u : ℕ → ℕ → ℕ) (s : Schedule) where
+  -- all units' priced costs are their costs and the prices of the weeks
+  units-priced : sumTo (p .units) (λ i. priced p u i (s .start i))
+      ≡ sumTo (p .units) (upkeepAt p (s .start)) + sumTo (p .weeks) (rowSum (p .units) (outPrice p u (s .start)))
+  unfolding priced upkeep upkeepAt rowSum turned added pick outIn
+  units-priced =
+      sum-same (p .units) (λ i. priced p u i (s .start i)) (added (upkeepAt p (s .start)) (rowSum (p .weeks) (turned (outPrice p u (s .start)))))
+      (λ i h. sum-pick-added (p .weeks) (inSpan (s .start i) (p .duration i)) (turned (p .maint) i) (turned u i))
+      ∙ (sum-added (p .units) (upkeepAt p (s .start)) (rowSum (p .weeks) (turned (outPrice p u (s .start))))
+      ∙ ap (λ (a : ℕ). sumTo (p .units) (upkeepAt p (s .start)) + a) (sym (exchange (p .weeks) (p .units) (outPrice p u (s .start)))))
+
+  module _ (b : NumSet) (starts least v : ℕ → ℕ) (plan : Plan p s) (agree : Agree p b starts (s .start)) where
+    units-below : LeastPriced p u least → sumTo (p .units) (unitBound p u b starts least) ≤ sumTo (p .units) (λ i. priced p u i (s .start i))
+    unfolding unitBound
+    units-below le = sum-mono (p .units) (unitBound p u b starts least) (λ i. priced p u i (s .start i)) (λ i h. go i h (b i) refl)
+      where
+        go : (i : ℕ) → i < p .units → (c : Bool) → b i ≡ c → if c (priced p u i (starts i)) (least i) ≤ priced p u i (s .start i)
+        go i h true e = rw (agree i h e) (omega arith)
+        go i h false e = le .below i (s .start i) h (plan .permits i h)
+
+    out-too : (t i : ℕ) → i < p .units → outOf p b starts t i ≡ true → outIn p (s .start) t i ≡ true
+    unfolding outOf outIn
+    out-too t i h e =
+        ap (λ (z : ℕ). inSpan z (p .duration i) t) (agree i h (and-left (b i) (inSpan (starts i) (p .duration i) t) e))
+        ∙ and-right (b i) (inSpan (starts i) (p .duration i) t) e
+
+    weeks-below : ((t : ℕ) → t < p .weeks → WeekLeast p u t (outOf p b starts t) (v t))
+        → sumTo (p .weeks) v + sumTo (p .weeks) (rowSum (p .units) (outPrice p u (s .start))) ≤ sumTo (p .weeks) (runCostAt p (s .run)) + prices p u
+    unfolding prices added rowSum runCostAt
+    weeks-below w =
+        let a = sum-added (p .weeks) v (rowSum (p .units) (outPrice p u (s .start))) in
+        let c = sum-added (p .weeks) (runCostAt p (s .run)) (rowSum (p .units) u) in
+        let d = sum-mono (p .weeks) (added v (rowSum (p .units) (outPrice p u (s .start)))) (added (runCostAt p (s .run)) (rowSum (p .units) u))
+        week in
+        omega (arith, a, c, d)
+      where
+        week : (t : ℕ) → t < p .weeks → v t + sumTo (p .units) (outPrice p u (s .start) t) ≤ runCost p t (s .run t) + sumTo (p .units) (u t)
+        week t l = omega (
+          arith,
+          w t l .below (outIn p (s .start) t) (s .run t) (plan .compatible t l) (out-too t) (plan .serves t l),
+          sum-split (p .units) (outIn p (s .start) t) (u t),
+        )
+
+    bound-below : LeastPriced p u least → ((t : ℕ) → t < p .weeks → WeekLeast p u t (outOf p b starts t) (v t))
+        → lowerBound p u b starts least v ≤ planCost p s + prices p u
+    unfolding lowerBound planCost
+    bound-below le w = omega (arith, units-below le, weeks-below w, units-priced)
+
+-- starts of any set of units, whose bound less all prices comes to the limit, are a dead end
+pub priced-closed : (p : Problem) (u : ℕ → ℕ → ℕ) (b : NumSet) (starts least v : ℕ → ℕ) (limit : ℕ) → Fair p → LeastPriced p u least
+    → ((t : ℕ) → t < p .weeks → WeekLeast p u t (outOf p b starts t) (v t)) → limit + prices p u ≤ lowerBound p u b starts least v
+    → Closed p b starts limit
+priced-closed p u b starts least v limit fair le w h = record {
+  costs = λ s sound agree. omega (arith, bound-below p u s b starts least v (sound-plan p s fair sound) agree le w, cost-plan p s (sound .schedule));
+}
+
+-- ---- without prices
+
+-- a unit costs its maintenance
+pub priced-none : (p : Problem) (i s : ℕ) → priced p noPrices i s ≡ upkeep p i s
+unfolding priced upkeep pick added turned noPrices
+priced-none p i s =
+    sum-same (p .weeks) (pick (inSpan s (p .duration i)) (added (turned (p .maint) i) (turned noPrices i)))
+    (pick (inSpan s (p .duration i)) (turned (p .maint) i))
+    (λ t l. ap (λ (c : ℕ). if (inSpan s (p .duration i) t) c 0) (plus-none (p .maint t i)))
+  where
+    plus-none : (a : ℕ) → a + 0 ≡ a
+    plus-none a = omega arith
+
+-- and all prices come to 0
+pub prices-none : (p : Problem) → prices p noPrices ≡ 0
+unfolding prices rowSum noPrices
+prices-none p = sum-zero (p .weeks) (rowSum (p .units) noPrices) (λ t l. sum-zero (p .units) (noPrices t) (λ i h. refl))
+
+-- ---- the first k units
+
+module _ (p : Problem) (starts : ℕ → ℕ) (k : ℕ) (le : k ≤ p .units) where
+  -- a week's maintenance is that of the first k units which are out
+  week-upkeep : (t : ℕ) → outCost p t (placed p starts k t) ≡ sumTo k (pick (outIn p starts t) (p .maint t))
+  unfolding outCost placed pick
+  week-upkeep t =
+      let e = sum-front k (p .units) (pick (placed p starts k t) (p .maint t)) (pick (outIn p starts t) (p .maint t)) (λ i. 0) le low high in
+      omega (arith, e, sum-zero k (λ i. 0) (λ i l. refl), sum-zero (p .units) (λ i. 0) (λ i l. refl))
+    where
+      low : (i : ℕ) → i < k → pick (placed p starts k t) (p .maint t) i ≡ pick (outIn p starts t) (p .maint t) i
+      low i l = rw (lt-ltb i k l)
+
+      high : (i : ℕ) → k ≤ i → i < p .units → pick (placed p starts k t) (p .maint t) i ≡ 0
+      high i l h = rw (le-ltb i k l)
+
+  -- the maintenance of all weeks, with the first k units placed, is that of their overhauls
+  pub placed-upkeep : sumTo (p .weeks) (λ t. outCost p t (placed p starts k t)) ≡ sumTo k (upkeepAt p starts)
+  unfolding upkeepAt upkeep rowSum turned pick outIn
+  placed-upkeep =
+      sum-same (p .weeks) (λ t. outCost p t (placed p starts k t)) (rowSum k (λ t. pick (outIn p starts t) (p .maint t))) (λ t l. week-upkeep t)
+      ∙ exchange (p .weeks) k (λ t. pick (outIn p starts t) (p .maint t))
+
+  -- so what they cost so far is their overhauls and the weeks' cheapest runs
+  pub paid-parts : paid p (placed p starts k) ≡ sumTo k (upkeepAt p starts) + sumTo (p .weeks) (λ t. leastCost p t (placed p starts k t))
+  unfolding paid weekPaid added
+  paid-parts =
+      sum-added (p .weeks) (λ t. outCost p t (placed p starts k t)) (λ t. leastCost p t (placed p starts k t))
+      ∙ ap (λ (a : ℕ). a + sumTo (p .weeks) (λ t. leastCost p t (placed p starts k t))) placed-upkeep
+
+  -- the units' parts of the bound without prices
+  plain-units : (least : ℕ → ℕ)
+      → sumTo (p .units) (unitBound p noPrices (firstUnits k) starts least) + sumTo k least ≡ sumTo k (upkeepAt p starts) + sumTo (p .units) least
+  unfolding unitBound firstUnits upkeepAt
+  plain-units least = sum-front k (p .units) (unitBound p noPrices (firstUnits k) starts least) (upkeepAt p starts) least le low high
+    where
+      low : (i : ℕ) → i < k → unitBound p noPrices (firstUnits k) starts least i ≡ upkeepAt p starts i
+      low i l = rw (lt-ltb i k l) (priced-none p i (starts i))
+
+      high : (i : ℕ) → k ≤ i → i < p .units → unitBound p noPrices (firstUnits k) starts least i ≡ least i
+      high i l h = rw (le-ltb i k l)
+
+-- starts of the first k units that cost the limit so far, with the least of the others, are a dead end
+pub plain-closed : (p : Problem) (starts least : ℕ → ℕ) (k limit : ℕ) → Fair p → k ≤ p .units → LeastPriced p noPrices least
+    → limit + sumTo k least ≤ paid p (placed p starts k) + sumTo (p .units) least → Closed p (firstUnits k) starts limit
+unfolding lowerBound outOf firstUnits placed
+plain-closed p starts least k limit fair le low h =
+    priced-closed p noPrices (firstUnits k) starts least (λ t. leastCost p t (placed p starts k t)) limit fair low
+    (λ t l. week-plain p noPrices t (placed p starts k t))
+    (omega (arith, prices-none p, plain-units p starts k le least, paid-parts p starts k le))

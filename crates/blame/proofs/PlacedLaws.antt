@@ -1,0 +1,329 @@
+-- Units placed, a unit and a week at a time: who is out, what it costs so far; and the schedule of all units placed, which no other with these
+-- starts undercuts.
+-- Assumes nothing.
+use Prim.Native.Nat.{ℕ, zero, suc, _+_, _≤_, _<_}
+use mathlib.Core.Path.{_≡_, refl, sym, _∙_, ap, subst, fun-ext}
+use mathlib.Core.Bool.{Bool, true, false, _&&_, _||_}
+use mathlib.Core.Logic.{_⊎_, inl, inr, ⊎-elim}
+use native.Mathlib.Nat.{not-suc-le-zero, le-of-suc-le-suc, eq-or-lt-of-le, le-refl}
+use native.Mathlib.Omega.{arith}
+use lib.Dec.{ltb, eqb}
+use borrow.Author.Tests.{ltb-true, lt-ltb, le-ltb, eq-eqb, ne-eqb}
+use Rattle.sums.specs.Sum.{sumTo}
+use Rattle.sums.specs.NumSet.{NumSet}
+use Rattle.sums.proofs.LogicLaws.{and-last-false, and-last-true, or-last-false, not-so, same-test, ltb-total}
+use Rattle.sums.proofs.SumLaws.{sum-mono, sum-same}
+use Rattle.sums.proofs.NumSetLaws.{pick-agree}
+use Rattle.model.specs.Problem.{Problem, Fair}
+use Rattle.model.specs.Domain.{permitted}
+use Rattle.model.specs.Schedule.{Schedule, inSpan, outIn, Sound, cost}
+use Rattle.model.specs.Commitment.{
+  Pick,
+  nothing,
+  picked,
+  IsPick,
+  Serves,
+  Cheapest,
+  NoRun,
+  NO_RUN,
+  runCost,
+  runBefore,
+  outCost,
+  pickCost,
+  leastCost,
+  cheapestRun,
+}
+use Rattle.model.specs.Plan.{Compatible, Plan, upkeep, upkeepAt, runCostAt, planCost}
+use Rattle.model.specs.Order.{Same, Lower, Earlier}
+use Rattle.model.proofs.DomainLaws.{span-from, span-below, span-of}
+use Rattle.model.proofs.CommitmentLaws.{fewer-out, cheapest-right, least-of}
+use Rattle.model.proofs.ScheduleLaws.{sound-plan, plan-sound, cost-plan}
+use Rattle.blame.specs.Closed.{Closed, Settled}
+use Rattle.blame.specs.Placed.{firstUnits, placed, partly, joined, weekPaid, paid, Standing, runOf, runAt, planOf}
+use Rattle.blame.proofs.PairLaws.{compatible-same}
+use Rattle.blame.proofs.BoundLaws.{least-below, paid-parts}
+
+-- ---- sums
+
+-- a term is no more than the sum
+sum-term : (n t : ℕ) (f : ℕ → ℕ) → t < n → f t ≤ sumTo n f
+unfolding sumTo
+sum-term zero t f h = absurd (not-suc-le-zero h)
+sum-term (suc n) t f h =
+    ⊎-elim (λ (e : t ≡ n). rw e (omega arith)) (λ (l : t < n). omega (arith, sum-term n t f l)) (eq-or-lt-of-le (le-of-suc-le-suc h))
+
+-- two sums that differ in one term
+pub sum-one : (n t : ℕ) (f g : ℕ → ℕ) → t < n → ((k : ℕ) → k < n → (k ≡ t → ⊥) → f k ≡ g k) → sumTo n g + f t ≡ sumTo n f + g t
+unfolding sumTo
+sum-one zero t f g h same = absurd (not-suc-le-zero h)
+sum-one (suc n) t f g h same =
+    ⊎-elim
+    (λ (e : t ≡ n). rw e (omega (arith, sum-same n f g (λ k l. same k (omega arith) (λ q. omega arith)))))
+    (λ (l : t < n). omega (arith, sum-one n t f g l (λ k b. same k (omega arith)), same n (omega arith) (λ q. omega arith)))
+    (eq-or-lt-of-le (le-of-suc-le-suc h))
+
+-- a sum with no larger terms, and one smaller
+sum-less : (n t : ℕ) (f g : ℕ → ℕ) → t < n → f t < g t → ((k : ℕ) → k < n → f k ≤ g k) → sumTo n f < sumTo n g
+unfolding sumTo
+sum-less zero t f g h less le = absurd (not-suc-le-zero h)
+sum-less (suc n) t f g h less le =
+    ⊎-elim
+    (λ (e : t ≡ n). let z : f n < g n = subst (λ (k : ℕ). f k < g k) e less in omega (arith, sum-mono n f g (λ k l. le k (omega arith))))
+    (λ (l : t < n). omega (arith, sum-less n t f g l less (λ k b. le k (omega arith)), le n (omega arith)))
+    (eq-or-lt-of-le (le-of-suc-le-suc h))
+
+-- ---- only the units of the problem count
+
+module _ (p : Problem) (t : ℕ) (a b : NumSet) (same : (i : ℕ) → i < p .units → a i ≡ b i) where
+  -- the same units out leave the same cheapest run
+  pub least-same : leastCost p t a ≡ leastCost p t b
+  unfolding leastCost pickCost
+  least-same = go (cheapestRun p t a) (cheapest-right p t a) (cheapestRun p t b) (cheapest-right p t b)
+    where
+      there : (r : ℕ) → Serves p t a r → Serves p t b r
+      there = fewer-out p t b a (λ i h e. same i h ∙ e)
+
+      back : (r : ℕ) → Serves p t b r → Serves p t a r
+      back = fewer-out p t a b (λ i h e. sym (same i h) ∙ e)
+
+      go : (f : Pick) → IsPick p t a f → (g : Pick) → IsPick p t b g → pickCost p t f ≡ pickCost p t g
+      go nothing none nothing _ = refl
+      go nothing none (picked r) d = absurd (none r (back r (d .serves)))
+      go (picked q) c nothing none = absurd (none q (there q (c .serves)))
+      go (picked q) c (picked r) d = omega (arith, c .least r (back r (d .serves)), d .least q (there q (c .serves)))
+
+  -- and cost the same maintenance
+  pub out-same : outCost p t a ≡ outCost p t b
+  unfolding outCost
+  out-same = pick-agree (p .units) b a (p .maint t) same
+
+  -- so the week costs the same
+  week-same : outCost p t a + leastCost p t a ≡ outCost p t b + leastCost p t b
+  week-same = omega (arith, out-same, least-same)
+
+-- the same units out in every week cost the same
+pub paid-same : (p : Problem) (out other : ℕ → NumSet) → ((t i : ℕ) → t < p .weeks → i < p .units → out t i ≡ other t i) → paid p out ≡ paid p other
+unfolding paid weekPaid
+paid-same p out other same = sum-same (p .weeks) (weekPaid p out) (weekPaid p other) (λ t l. week-same p t (out t) (other t) (λ i h. same t i l h))
+
+-- a week costs no more than all of them
+pub week-most : (p : Problem) (out : ℕ → NumSet) (t : ℕ) → t < p .weeks → outCost p t (out t) + leastCost p t (out t) ≤ paid p out
+unfolding paid weekPaid
+week-most p out t l = sum-term (p .weeks) t (weekPaid p out) l
+
+-- ---- the first k units
+
+-- with no unit placed none is out
+pub placed-none : (p : Problem) (starts : ℕ → ℕ) (t i : ℕ) → placed p starts 0 t i ≡ false
+unfolding placed
+placed-none p starts t i = rw (le-ltb i 0 (omega arith))
+
+module _ (p : Problem) (starts other : ℕ → ℕ) (k : ℕ) (same : (i : ℕ) → i < k → starts i ≡ other i) where
+  -- only the starts of the units placed count: for who is out
+  pub placed-agree : (t i : ℕ) → placed p starts k t i ≡ placed p other k t i
+  unfolding placed outIn
+  placed-agree t i = go (ltb i k) refl
+    where
+      go : (b : Bool) → ltb i k ≡ b → (b && inSpan (starts i) (p .duration i) t) ≡ (b && inSpan (other i) (p .duration i) t)
+      go true e = ap (λ (s : ℕ). inSpan s (p .duration i) t) (same i (ltb-true i k e))
+      go false e = refl
+
+  -- for what the search has tested
+  pub standing-agree : Standing p starts k → Standing p other k
+  standing-agree s = record {
+    permits = λ i h. ap (permitted p i) (sym (same i h)) ∙ s .permits i h;
+    compatible = λ t l. subst (Compatible p) (fun-ext (placed-agree t)) (s .compatible t l);
+    served = λ t l. subst (λ (a : NumSet). leastCost p t a < NO_RUN) (fun-ext (placed-agree t)) (s .served t l);
+  }
+
+  -- and for what it costs so far
+  pub paid-agree : paid p (placed p starts k) ≡ paid p (placed p other k)
+  paid-agree = paid-same p (placed p starts k) (placed p other k) (λ t i l h. placed-agree t i)
+
+-- ---- unit k, a week at a time
+
+module _ (p : Problem) (starts : ℕ → ℕ) (k t i : ℕ) where
+  partly-at : (m : ℕ) (b : Bool) → inSpan (starts k) m t ≡ b → partly p starts k m t i ≡ (placed p starts k t i || (eqb i k && b))
+  unfolding partly
+  partly-at m b e = ap (λ (c : Bool). placed p starts k t i || (eqb i k && c)) e
+
+  partly-out : (m : ℕ) → (inSpan (starts k) m t ≡ true → ⊥) → partly p starts k m t i ≡ placed p starts k t i
+  partly-out m h = partly-at m false (not-so (inSpan (starts k) m t) h) ∙ rw (and-last-false (eqb i k)) (or-last-false (placed p starts k t i))
+
+  -- with unit k out for no week yet, only the units placed are out
+  pub partly-none : partly p starts k 0 t i ≡ placed p starts k t i
+  partly-none = partly-out 0 (λ e. omega (arith, span-from (starts k) 0 t e, span-below (starts k) 0 t e))
+
+  -- with it out for its whole overhaul, one unit more is placed
+  pub partly-all : partly p starts k (p .duration k) t i ≡ placed p starts (k + 1) t i
+  unfolding partly placed outIn
+  partly-all = go (ltb-total i k)
+    where
+      go : (ltb i k ≡ true) ⊎ ((i ≡ k) ⊎ (ltb k i ≡ true)) → partly p starts k (p .duration k) t i ≡ placed p starts (k + 1) t i
+      go (inl e) =
+          let l = ltb-true i k e in
+          rw (e, ne-eqb i k (λ q. omega arith), lt-ltb i (k + 1) (omega arith)) (or-last-false (inSpan (starts i) (p .duration i) t))
+      go (inr (inl e)) = rw (e, le-ltb k k (omega arith), eq-eqb k k refl, lt-ltb k (k + 1) (omega arith))
+      go (inr (inr e)) =
+          let l = ltb-true k i e in
+          rw (le-ltb i k (omega arith), ne-eqb i k (λ q. omega arith), le-ltb i (k + 1) (omega arith))
+
+module _ (p : Problem) (starts : ℕ → ℕ) (k n t i : ℕ) where
+  -- one week more of its overhaul: in that week the unit joins those out
+  pub partly-here : t + 1 ≡ starts k + n → partly p starts k (n + 1) t i ≡ joined (placed p starts k t) k i
+  unfolding joined
+  partly-here e = partly-at p starts k t i (n + 1) true (span-of (starts k) (n + 1) t (omega arith) (omega arith)) ∙ rw (and-last-true (eqb i k))
+
+  -- and was not out in that week before
+  pub partly-here-before : t + 1 ≡ starts k + n → partly p starts k n t i ≡ placed p starts k t i
+  partly-here-before e = partly-out p starts k t i n (λ s. omega (arith, span-below (starts k) n t s))
+
+  -- in the other weeks the same units are out as before
+  pub partly-else : (t + 1 ≡ starts k + n → ⊥) → partly p starts k (n + 1) t i ≡ partly p starts k n t i
+  partly-else ne =
+      partly-at p starts k t i (n + 1) (inSpan (starts k) n t) (same-test (inSpan (starts k) (n + 1) t) (inSpan (starts k) n t) there back)
+      ∙ sym (partly-at p starts k t i n (inSpan (starts k) n t) refl)
+    where
+      there : inSpan (starts k) (n + 1) t ≡ true → inSpan (starts k) n t ≡ true
+      there e =
+          let a = span-from (starts k) (n + 1) t e in
+          let b = span-below (starts k) (n + 1) t e in
+          span-of (starts k) n t a
+          (⊎-elim (λ (q : t + 1 ≡ starts k + n). absurd (ne q)) (λ (l : t + 1 < starts k + n). l) (eq-or-lt-of-le (omega arith)))
+
+      back : inSpan (starts k) n t ≡ true → inSpan (starts k) (n + 1) t ≡ true
+      back e = span-of (starts k) (n + 1) t (span-from (starts k) n t e) (omega (arith, span-below (starts k) n t e))
+
+-- one week more of unit k: that week costs what it does with the unit among those out, the others what they did
+pub paid-next : (p : Problem) (starts : ℕ → ℕ) (k n t : ℕ) → t < p .weeks → t + 1 ≡ starts k + n
+    → paid p (partly p starts k (n + 1)) + (outCost p t (placed p starts k t) + leastCost p t (placed p starts k t))
+    ≡ paid p (partly p starts k n) + (outCost p t (joined (placed p starts k t) k) + leastCost p t (joined (placed p starts k t) k))
+unfolding paid weekPaid
+paid-next p starts k n t l e = omega (
+  arith,
+  sum-one (p .weeks) t (weekPaid p (partly p starts k n)) (weekPaid p (partly p starts k (n + 1))) l others,
+  week-same p t (partly p starts k n t) (placed p starts k t) (λ i h. partly-here-before p starts k n t i e),
+  week-same p t (partly p starts k (n + 1) t) (joined (placed p starts k t) k) (λ i h. partly-here p starts k n t i e),
+)
+  where
+    others : (s : ℕ) → s < p .weeks → (s ≡ t → ⊥) → weekPaid p (partly p starts k n) s ≡ weekPaid p (partly p starts k (n + 1)) s
+    others s b ne =
+        week-same p s (partly p starts k n s) (partly p starts k (n + 1) s) (λ i h. sym (partly-else p starts k n s i (λ q. ne (omega arith))))
+
+-- ---- a week without a run
+
+-- a least cost of NO_RUN, where every run costs less, says that there is none
+pub least-lacks : (p : Problem) (t : ℕ) (a : NumSet) → ((r : ℕ) → Serves p t a r → runCost p t r < NO_RUN) → NO_RUN ≤ leastCost p t a → NoRun p t a
+unfolding leastCost pickCost
+least-lacks p t a small high = go (cheapestRun p t a) (cheapest-right p t a) high
+  where
+    go : (f : Pick) → IsPick p t a f → NO_RUN ≤ pickCost p t f → NoRun p t a
+    go nothing none h = none
+    go (picked q) c h = absurd (omega (arith, small q (c .serves)))
+
+-- and one below NO_RUN, that the run picked is the cheapest
+picked-cheapest : (p : Problem) (t : ℕ) (a : NumSet) → leastCost p t a < NO_RUN → Cheapest p t a (runOf (cheapestRun p t a))
+unfolding leastCost pickCost runOf
+picked-cheapest p t a low = go (cheapestRun p t a) (cheapest-right p t a) low
+  where
+    go : (f : Pick) → IsPick p t a f → pickCost p t f < NO_RUN → Cheapest p t a (runOf f)
+    go nothing none h = absurd (omega arith)
+    go (picked q) c h = c
+
+-- ---- all units placed
+
+-- then the units placed that are out are the units out
+placed-all : (p : Problem) (starts : ℕ → ℕ) (t i : ℕ) → i < p .units → placed p starts (p .units) t i ≡ outIn p starts t i
+unfolding placed
+placed-all p starts t i h = rw (lt-ltb i (p .units) h)
+
+module _ (p : Problem) (starts : ℕ → ℕ) (fair : Fair p) where
+  -- these starts' runs in a schedule with the same starts
+  run-there : (s : Schedule) → Sound p s → Same (p .units) (s .start) starts → (t : ℕ) → t < p .weeks → Serves p t (outIn p starts t) (s .run t)
+  unfolding outIn
+  run-there s sound same t l =
+      fewer-out p t (outIn p starts t) (outIn p (s .start) t) (λ i h e. ap (λ (v : ℕ). inSpan v (p .duration i) t) (same i h) ∙ e) (s .run t)
+      (sound-plan p s fair sound .serves t l)
+
+  -- the overhauls of a schedule with the same starts cost the same
+  upkeep-same : (s : Schedule) → Same (p .units) (s .start) starts → sumTo (p .units) (upkeepAt p (s .start)) ≡ sumTo (p .units) (upkeepAt p starts)
+  unfolding upkeepAt
+  upkeep-same s same = sum-same (p .units) (upkeepAt p (s .start)) (upkeepAt p starts) (λ i h. ap (upkeep p i) (same i h))
+
+  -- no sound schedule with these starts costs less than they do with each week's cheapest run
+  pub leaf-least : (s : Schedule) → Sound p s → Same (p .units) (s .start) starts → paid p (placed p starts (p .units)) ≤ cost p s
+  unfolding planCost runCostAt
+  leaf-least s sound same = omega (
+    arith,
+    cost-plan p s (sound .schedule),
+    paid-parts p starts (p .units) (le-refl (p .units)),
+    upkeep-same s same,
+    sum-mono (p .weeks) (λ t. leastCost p t (placed p starts (p .units) t)) (runCostAt p (s .run)) week,
+  )
+    where
+      week : (t : ℕ) → t < p .weeks → leastCost p t (placed p starts (p .units) t) ≤ runCost p t (s .run t)
+      week t l =
+          least-below p t (placed p starts (p .units) t) (outIn p starts t) (s .run t) (λ i h e. sym (placed-all p starts t i h) ∙ e)
+          (run-there s sound same t l)
+
+  -- so they are a dead end below that
+  pub leaf-closed : Closed p (firstUnits (p .units)) starts (paid p (placed p starts (p .units)))
+  unfolding firstUnits
+  leaf-closed = record { costs = λ s sound agree. leaf-least s sound (λ i h. agree i h (lt-ltb i (p .units) h)) }
+
+  module _ (standing : Standing p starts (p .units)) where
+    -- each week's run is the cheapest
+    pub run-cheapest : (t : ℕ) → t < p .weeks → Cheapest p t (outIn p starts t) (runAt p starts t)
+    unfolding runAt
+    run-cheapest t l =
+        picked-cheapest p t (outIn p starts t)
+        (omega (arith, standing .served t l, least-same p t (placed p starts (p .units) t) (outIn p starts t) (placed-all p starts t)))
+
+    leaf-plan : Plan p (planOf p starts)
+    leaf-plan = record {
+      permits = standing .permits;
+      serves = λ t l. run-cheapest t l .serves;
+      compatible = λ t l.
+          compatible-same p (placed p starts (p .units) t) (outIn p starts t) (λ i h. sym (placed-all p starts t i h)) fair
+          (standing .compatible t l);
+    }
+
+    -- the starts and each week's cheapest run are a sound schedule
+    pub leaf-sound : Sound p (planOf p starts)
+    leaf-sound = plan-sound p (planOf p starts) fair leaf-plan
+
+    -- which costs what the search has counted
+    pub leaf-cost : cost p (planOf p starts) ≡ paid p (placed p starts (p .units))
+    unfolding planCost runCostAt
+    leaf-cost = omega (
+      arith,
+      cost-plan p (planOf p starts) (leaf-sound .schedule),
+      paid-parts p starts (p .units) (le-refl (p .units)),
+      sum-same (p .weeks) (λ t. leastCost p t (placed p starts (p .units) t)) (runCostAt p (runAt p starts)) week,
+    )
+      where
+        week : (t : ℕ) → t < p .weeks → leastCost p t (placed p starts (p .units) t) ≡ runCost p t (runAt p starts t)
+        week t l =
+            least-same p t (placed p starts (p .units) t) (outIn p starts t) (placed-all p starts t)
+            ∙ least-of p t (outIn p starts t) (runAt p starts t) (run-cheapest t l)
+
+    -- with the same starts and an earlier run in the first week that differs it costs more
+    runs-first : (q : Schedule) → Sound p q → Same (p .units) (q .start) starts → Lower (runBefore p) (p .weeks) (q .run) (runAt p starts)
+        → paid p (placed p starts (p .units)) < cost p q
+    unfolding planCost runCostAt
+    runs-first q sound same lower = omega (
+      arith,
+      leaf-cost,
+      cost-plan p (planOf p starts) (leaf-sound .schedule),
+      cost-plan p q (sound .schedule),
+      upkeep-same q same,
+      sum-less (p .weeks) (lower .at) (runCostAt p (runAt p starts)) (runCostAt p (q .run)) (lower .below)
+          (run-cheapest (lower .at) (lower .below) .first (q .run (lower .at)) (run-there q sound same (lower .at) (lower .below)) (lower .less))
+          (λ t l. run-cheapest t l .least (q .run t) (run-there q sound same t l)),
+    )
+
+    -- every earlier sound schedule costs more, where all before these starts are settled at a limit above the cost
+    pub leaf-first : (limit : ℕ) → Settled p starts (p .units) limit → paid p (placed p starts (p .units)) < limit
+        → (q : Schedule) → Sound p q → Earlier p q (planOf p starts) → paid p (placed p starts (p .units)) < cost p q
+    leaf-first limit settled low q sound (inl lower) = omega (arith, settled .costs q sound lower)
+    leaf-first limit settled low q sound (inr both) = runs-first q sound (both .0) (both .1)

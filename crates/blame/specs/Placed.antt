@@ -1,0 +1,64 @@
+-- A search that has placed the first k units: who is out in each week, what that costs so far, what it has tested, and the schedule that all
+-- starts and the weeks' cheapest runs make.
+-- Assumes nothing.
+use Prim.Native.Nat.{ℕ, _+_, _<_}
+use mathlib.Core.Path.{_≡_}
+use mathlib.Core.Bool.{true, _&&_, _||_}
+use lib.Dec.{ltb, eqb}
+use Rattle.sums.specs.Sum.{sumTo}
+use Rattle.sums.specs.NumSet.{NumSet}
+use Rattle.model.specs.Problem.{Problem}
+use Rattle.model.specs.Domain.{permitted}
+use Rattle.model.specs.Schedule.{Schedule, inSpan, outIn}
+use Rattle.model.specs.Commitment.{Pick, nothing, picked, outCost, leastCost, cheapestRun, NO_RUN}
+use Rattle.model.specs.Plan.{Compatible}
+
+-- the units below k
+unfoldable pub firstUnits : ℕ → NumSet
+firstUnits k i = ltb i k
+
+-- the units of b that by their starts are out in week t
+unfoldable pub outOf : Problem → NumSet → (ℕ → ℕ) → ℕ → NumSet
+outOf p b starts t i = b i && outIn p starts t i
+
+-- the units below k that are out in week t
+unfoldable pub placed : Problem → (ℕ → ℕ) → ℕ → ℕ → NumSet
+placed p starts k t i = ltb i k && outIn p starts t i
+
+-- the same, with unit k out for the first n weeks of its overhaul
+unfoldable pub partly : Problem → (ℕ → ℕ) → (k n : ℕ) → ℕ → NumSet
+unfolding placed
+partly p starts k n t i = placed p starts k t i || (eqb i k && inSpan (starts k) n t)
+
+-- a set and one unit more
+unfoldable pub joined : NumSet → ℕ → NumSet
+joined a j i = a i || eqb i j
+
+-- what a week costs with these units out: their maintenance, and the cheapest run of the others
+unfoldable pub weekPaid : Problem → (ℕ → NumSet) → ℕ → ℕ
+weekPaid p out t = outCost p t (out t) + leastCost p t (out t)
+
+-- what all weeks cost, with the units of `out t` out in week t
+unfoldable pub paid : Problem → (ℕ → NumSet) → ℕ
+unfolding weekPaid
+paid p out = sumTo (p .weeks) (weekPaid p out)
+
+-- the first k starts are permitted, and in each week the units out may be out together and leave a run that meets the demand
+pub record Standing (p : Problem) (starts : ℕ → ℕ) (k : ℕ) : Type 0 where
+  pub permits : (i : ℕ) → i < k → permitted p i (starts i) ≡ true
+  pub compatible : (t : ℕ) → t < p .weeks → Compatible p (placed p starts k t)
+  pub served : (t : ℕ) → t < p .weeks → leastCost p t (placed p starts k t) < NO_RUN
+
+-- the run that was picked, 0 for none
+unfoldable pub runOf : Pick → ℕ
+runOf nothing = 0
+runOf (picked r) = r
+
+-- the cheapest run of week t with the units out that these starts say
+unfoldable pub runAt : Problem → (ℕ → ℕ) → ℕ → ℕ
+unfolding runOf
+runAt p starts t = runOf (cheapestRun p t (outIn p starts t))
+
+-- the starts, and each week's cheapest run
+abbrev pub planOf : Problem → (ℕ → ℕ) → Schedule
+planOf p starts = record { start = starts; run = runAt p starts }

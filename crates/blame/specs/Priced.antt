@@ -1,0 +1,46 @@
+-- A lower bound of the cost of every sound schedule with the starts of some units, for any prices u t i of unit i being out in week t (in the
+-- field, Lagrange multipliers of the sum over weeks and units). Prices are advice: the bound holds for all of them, and with prices 0 it is the sum
+-- of the overhauls placed, the others' least, and the weeks' cheapest runs.
+-- Assumes nothing.
+use Prim.Native.Nat.{ℕ, _+_, _≤_, _<_}
+use mathlib.Core.Path.{_≡_}
+use mathlib.Core.Bool.{true}
+use Rattle.sums.specs.Logic.{if}
+use Rattle.sums.specs.Sum.{sumTo, added, turned, rowSum}
+use Rattle.sums.specs.NumSet.{NumSet, pick, away}
+use Rattle.model.specs.Problem.{Problem}
+use Rattle.model.specs.Domain.{permitted}
+use Rattle.model.specs.Schedule.{inSpan}
+use Rattle.model.specs.Commitment.{Serves, runCost}
+use Rattle.model.specs.Plan.{Compatible}
+
+-- what unit i's overhaul from start s costs, its prices included
+unfoldable pub priced : Problem → (ℕ → ℕ → ℕ) → ℕ → ℕ → ℕ
+priced p u i s = sumTo (p .weeks) (pick (inSpan s (p .duration i)) (added (turned (p .maint) i) (turned u i)))
+
+-- no prices
+unfoldable pub noPrices : ℕ → ℕ → ℕ
+noPrices t i = 0
+
+-- all prices
+unfoldable pub prices : Problem → (ℕ → ℕ → ℕ) → ℕ
+prices p u = sumTo (p .weeks) (rowSum (p .units) u)
+
+-- a unit's part of the bound: of b at its start, another at its least
+unfoldable pub unitBound : Problem → (ℕ → ℕ → ℕ) → NumSet → (starts least : ℕ → ℕ) → ℕ → ℕ
+unfolding priced
+unitBound p u b starts least i = if (b i) (priced p u i (starts i)) (least i)
+
+-- the bound: the units' parts, and v t for week t
+unfoldable pub lowerBound : Problem → (ℕ → ℕ → ℕ) → NumSet → (starts least v : ℕ → ℕ) → ℕ
+unfolding unitBound
+lowerBound p u b starts least v = sumTo (p .units) (unitBound p u b starts least) + sumTo (p .weeks) v
+
+-- least i is at most what unit i costs from any permitted start
+pub record LeastPriced (p : Problem) (u : ℕ → ℕ → ℕ) (least : ℕ → ℕ) : Type 0 where
+  pub below : (i s : ℕ) → i < p .units → permitted p i s ≡ true → least i ≤ priced p u i s
+
+-- v is at most what any run of week t costs, and the prices of the units not out, whatever compatible set with the units of a is out
+pub record WeekLeast (p : Problem) (u : ℕ → ℕ → ℕ) (t : ℕ) (a : NumSet) (v : ℕ) : Type 0 where
+  pub below : (out : NumSet) (r : ℕ) → Compatible p out → ((i : ℕ) → i < p .units → a i ≡ true → out i ≡ true) → Serves p t out r
+      → v ≤ runCost p t r + sumTo (p .units) (pick (away out) (u t))

@@ -1,0 +1,268 @@
+-- Words of sets and of tallies: sets of 16 units, a word and the tally it holds, and rows of words with one unit more out in the weeks of its
+-- overhaul, a week at a time.
+-- Assumes nothing.
+use Prim.Native.Nat.{ℕ, _+_, _*_, _-_, _/_, _%_, _^_, _≤_, _<_}
+use mathlib.Core.Path.{_≡_, refl, sym, _∙_, ap, subst}
+use mathlib.Core.Bool.{Bool, true, false, _&&_, _||_}
+use mathlib.Core.List.{List}
+use mathlib.Core.Logic.{⊎-elim}
+use native.Mathlib.Decide.{ℕ-discrete}
+use native.Mathlib.Nat.{eq-or-lt-of-le, mul-le-mul-right, div-eq-of-lt}
+use native.Mathlib.Omega.{arith}
+use lib.Dec.{eqb}
+use mir.Syntax.{w64}
+use mir.Val.{Fits}
+use lib.ListN.{length, getD, set, replicate, length-set, length-replicate}
+use lib.Pow.{pow-mono}
+use lib.Seq.{getD-set-same, getD-set-other}
+use borrow.Author.Tests.{ne-eqb}
+use Rattle.sums.specs.Sum.{sumTo, countsOne, shifted}
+use Rattle.sums.specs.Range.{someTo, firstTo}
+use Rattle.sums.specs.NumSet.{NumSet, pick, power, numberOf, has}
+use Rattle.sums.proofs.LogicLaws.{or-last-false, and-last-false, and-last-true, same-test, not-so}
+use Rattle.sums.proofs.SumLaws.{sum-zero, sum-cut}
+use Rattle.sums.proofs.RangeLaws.{none-at, first-is}
+use Rattle.sums.proofs.LoopLaws.{zeros-at}
+use Rattle.sums.proofs.NumSetLaws.{sum-over, number-below, number-own, zero-has}
+use Rattle.model.specs.declared.Layout.{Layout}
+use Rattle.model.specs.Problem.{Problem}
+use Rattle.model.specs.Rules.{headcount}
+use Rattle.model.specs.Schedule.{inSpan}
+use Rattle.model.specs.Commitment.{outCost}
+use Rattle.model.specs.Words.{problemOf}
+use Rattle.model.proofs.DomainLaws.{permits-from, permits-ends, span-from, span-below, span-of}
+use Rattle.model.proofs.FileLaws.{ranged, fair}
+use Rattle.instance.specs.Filed.{Filed}
+use Rattle.instance.proofs.FiledLaws.{weeks-are, units-are}
+use Rattle.commitment.specs.declared.Tally.{Tally}
+use Rattle.commitment.specs.Tally.{Tallies}
+use Rattle.commitment.proofs.TallyLaws.{tally-none}
+use Rattle.blame.specs.Closed.{startIn}
+use Rattle.blame.specs.Placed.{placed, partly}
+use Rattle.blame.proofs.PlacedLaws.{placed-none, partly-all}
+use Rattle.bound.specs.Rows.{tallyOf, wordOf, Packs, Joins, Rows}
+use Rattle.bound.specs.Tests.{Due}
+
+-- ---- sets of 16 units
+
+-- a number below 2^16 has no place from 16 on
+pub high-none : (x i : ℕ) → x < 65536 → 16 ≤ i → has x i ≡ false
+unfolding has
+high-none x i l h =
+    let m : 2 ^ 16 ≤ 2 ^ i = pow-mono h in
+    let s : x < 2 ^ i = omega arith in
+    ap (λ (z : ℕ). eqb (z % 2) 1) (div-eq-of-lt s)
+
+-- a number without a place from 16 on is below 2^16
+pub set-small : (r : ℕ) → r < 4294967296 → ((i : ℕ) → 16 ≤ i → has r i ≡ false) → r < 65536
+unfolding numberOf pick shifted
+set-small r l none =
+    let own : numberOf 32 (has r) ≡ r = number-own 32 r (omega arith) in
+    let cut : sumTo 32 (pick (has r) power) ≡ sumTo 16 (pick (has r) power) + sumTo 16 (shifted 16 (pick (has r) power))
+    = sum-cut 16 16 (pick (has r) power) in
+    let zero : sumTo 16 (shifted 16 (pick (has r) power)) ≡ 0
+    = sum-zero 16 (shifted 16 (pick (has r) power)) (λ k h. rw (none (16 + k) (omega arith))) in
+    omega (arith, own, cut, zero, number-below 16 (has r))
+
+-- a set that is not empty has a member
+pub record Member (r : ℕ) : Type 0 where
+  pub unit : ℕ
+  pub holds : has r unit ≡ true
+
+-- the first of its places
+pub some-member : (r : ℕ) → r < 4294967296 → (r ≡ 0 → ⊥) → Member r
+unfolding numberOf pick
+some-member r l ne = go (someTo 32 (has r)) refl
+  where
+    go : (b : Bool) → someTo 32 (has r) ≡ b → Member r
+    go true e = record { unit = firstTo 32 (has r); holds = first-is 32 (has r) e .holds }
+    go false e =
+        let own : numberOf 32 (has r) ≡ r = number-own 32 r (omega arith) in
+        let none : sumTo 32 (pick (has r) power) ≡ 0 = sum-zero 32 (pick (has r) power) (λ k h. rw (none-at 32 (has r) e k h)) in
+        absurd (ne (omega (arith, own, none)))
+
+-- one unit more of the first 16
+pub joined-small : (x r i : ℕ) → x < 65536 → r < 4294967296 → i < 16 → ((k : ℕ) → has r k ≡ (has x k || eqb k i)) → r < 65536
+joined-small x r i l b h e =
+    set-small r b (λ k m. e k ∙ rw (high-none x k l m, ne-eqb k i (λ q. omega arith)))
+
+-- ---- a word and its tally
+
+-- the word of a tally holds it
+pub word-tally : (y : Tally) (r : ℕ) → Packs y → r ≡ wordOf y → tallyOf r ≡ y
+unfolding wordOf
+word-tally y r g e =
+    let a : r % 65536 ≡ y .out = omega (arith, g .few, g .many, e) in
+    let q : r / 65536 ≡ y .cost .0 * 32 + y .count = omega (arith, g .few, e) in
+    let b : r / 65536 % 32 ≡ y .count = rw q (omega (arith, g .many)) in
+    let c : r / 2097152 ≡ y .cost .0 = omega (arith, g .few, g .many, e) in
+    rw (a, b, c)
+
+-- how many are out, and what they cost in a week
+module _ (ws : List ℕ) (l : Layout) (f : Filed ws l) (out : NumSet) where
+  -- no more than 16
+  pub count-small : headcount (problemOf ws) out ≤ 16
+  unfolding headcount countsOne
+  count-small =
+      let p = problemOf ws in
+      let b = sum-over (p .units) 1 out countsOne (λ i d. omega arith) in
+      omega (arith, ranged ws (f .passed) .units-most)
+
+  -- no more than 16 times the dearest
+  pub out-small : (t : ℕ) → t < l .weeks → outCost (problemOf ws) t out ≤ 4000000
+  unfolding outCost
+  out-small t h =
+      let p = problemOf ws in
+      let g = ranged ws (f .passed) in
+      let b = sum-over (p .units) 250000 out (p .maint t) (λ i d. g .maint-most t i (omega (arith, weeks-are ws l f)) d) in
+      omega (arith, mul-le-mul-right 250000 (g .units-most))
+
+-- the tally that was read from a word is a right one
+pub tally-read : (p : Problem) (t word : ℕ) (y : Tally) → y ≡ tallyOf word → Tallies p t (tallyOf word) → Tallies p t y
+tally-read p t word y e w = subst (Tallies p t) (sym e) w
+
+module _ (ws : List ℕ) (l : Layout) (t i word : ℕ) (y z : Tally) (f : Filed ws l) (h : t < l .weeks) (hi : i < l .units) (e : y ≡ tallyOf word)
+    (b : z .out < 4294967296) (w : Tallies (problemOf ws) t z) (j : (k : ℕ) → has (z .out) k ≡ (has (y .out) k || eqb k i)) where
+  read-joined : (k : ℕ) → has (z .out) k ≡ (has (word % 65536) k || eqb k i)
+  read-joined k = j k ∙ rw e
+
+  -- the tally of a word with one unit more fits into a word
+  pub packs-joined : Packs z
+  packs-joined = record {
+    few = joined-small (word % 65536) (z .out) i (omega arith) b (omega (arith, f .units-most)) read-joined;
+    many = omega (arith, w .many, count-small ws l f (has (z .out)));
+    cheap = omega (arith, w .sum, out-small ws l f (has (z .out)) t h);
+  }
+
+  -- which holds it
+  pub word-tallies : (r : ℕ) → r ≡ wordOf z → Tallies (problemOf ws) t (tallyOf r)
+  word-tallies r q = subst (Tallies (problemOf ws) t) (sym (word-tally z r packs-joined q)) w
+
+  -- with that unit
+  pub word-joins : (r : ℕ) → r ≡ wordOf z → Joins word i r
+  word-joins r q = record { sets = λ k. ap (λ (x : Tally). has (x .out) k) (word-tally z r packs-joined q) ∙ read-joined k }
+
+-- ---- rows before any unit is placed
+
+-- words of 0 are the tallies of nobody
+pub rows-none : (p : Problem) (starts : ℕ → ℕ) (rows : List ℕ) → rows ≡ replicate 52 0 → Rows p (placed p starts 0) rows
+rows-none p starts rows e = record {
+  long = ap (λ (xs : List ℕ). length xs) e ∙ length-replicate {A = ℕ} 52 0;
+  tallies = λ t l. subst (λ (x : ℕ). Tallies p t (tallyOf x)) (sym (zero t)) (tally-none p t);
+  sets = λ t l i. ap (λ (x : ℕ). has (x % 65536) i) (zero t) ∙ (zero-has i ∙ sym (placed-none p starts t i));
+}
+  where
+    zero : (t : ℕ) → getD rows t 0 ≡ 0
+    zero t = ap (λ (xs : List ℕ). getD xs t 0) e ∙ zeros-at 52 t
+
+-- ---- a unit to be placed
+
+module _ (ws : List ℕ) (l : Layout) (rows starts : List ℕ) (j : ℕ) (f : Filed ws l) (d : Due (problemOf ws) rows (startIn starts) j) where
+  -- it is one of the file's
+  pub due-unit : j < l .units
+  due-unit = omega (arith, d .unit, units-are ws l f)
+
+  -- one of 16
+  pub due-few : j < 16
+  due-few = omega (arith, due-unit, f .units-most)
+
+  -- so its place in a table fits a word
+  pub due-fits : Fits w64 (j * 4)
+  due-fits = omega (arith, due-few)
+
+  -- and its own number, or the next one
+  pub due-room : (m : ℕ) → m ≤ 1 → Fits w64 (j + m)
+  due-room m h = omega (arith, due-few)
+
+  -- which is no more than the number of units
+  pub due-next : (m : ℕ) → m ≤ 1 → j + m ≤ l .units
+  due-next m h = omega (arith, due-unit)
+
+  -- its start counts from 1
+  pub due-some : 1 ≤ getD starts j 0
+  unfolding startIn
+  due-some = omega (arith, permits-from (problemOf ws) j (startIn starts j) (d .permits), fair ws (f .passed) .from-one j (d .unit))
+
+  -- its overhaul ends in the season
+  pub due-ends : (weeks : ℕ) → weeks ≡ problemOf ws .duration j → getD starts j 0 - 1 + weeks ≤ l .weeks
+  unfolding startIn
+  due-ends weeks e = omega (arith, due-some, permits-ends (problemOf ws) j (startIn starts j) (d .permits), weeks-are ws l f)
+
+  -- the rows hold the tallies of its weeks
+  pub due-tally : (first k weeks : ℕ) → first + weeks ≤ l .weeks → k < weeks → Tallies (problemOf ws) (first + k) (tallyOf (getD rows (first + k) 0))
+  due-tally first k weeks e b = d .tallied .tallies (first + k) (omega (arith, weeks-are ws l f))
+
+-- ---- rows with one unit more, a week at a time
+
+-- the rows as they were, with unit j out in k weeks from week first on
+pub record RowsTo (p : Problem) (rows : List ℕ) (j first k : ℕ) (next : List ℕ) : Type 0 where
+  pub long : length next ≡ 52
+  pub tallies : (t : ℕ) → t < p .weeks → Tallies p t (tallyOf (getD next t 0))
+  pub sets : (t : ℕ) → t < p .weeks → (i : ℕ)
+      → has (getD next t 0 % 65536) i ≡ (has (getD rows t 0 % 65536) i || (eqb i j && inSpan (first + 1) k t))
+
+-- none yet
+pub rows-start : (p : Problem) (rows : List ℕ) (starts : ℕ → ℕ) (j first : ℕ) → Due p rows starts j → RowsTo p rows j first 0 rows
+rows-start p rows starts j first d = record {
+  long = d .tallied .long;
+  tallies = d .tallied .tallies;
+  sets = λ t l i.
+      let x : inSpan (first + 1) 0 t ≡ false = not-so (inSpan (first + 1) 0 t)
+      (λ e. omega (arith, span-from (first + 1) 0 t e, span-below (first + 1) 0 t e)) in
+      sym (rw (x, and-last-false (eqb i j)) (or-last-false (has (getD rows t 0 % 65536) i)));
+}
+
+-- one week more
+pub rows-next : (ws : List ℕ) (l : Layout) (rows next : List ℕ) (j first k weeks r : ℕ) → Filed ws l → RowsTo (problemOf ws) rows j first k next
+    → first + weeks ≤ l .weeks → k < weeks → Tallies (problemOf ws) (first + k) (tallyOf r) → Joins (getD rows (first + k) 0) j r
+    → RowsTo (problemOf ws) rows j first (k + 1) (set next (first + k) r)
+rows-next ws l rows next j first k weeks r f h end b w g = record {
+  long = length-set next (first + k) r ∙ h .long;
+  tallies = λ t d. tallies t d (ℕ-discrete t (first + k));
+  sets = λ t d i. sets t d i (ℕ-discrete t (first + k));
+}
+  where
+    p : Problem
+    p = problemOf ws
+
+    same : getD (set next (first + k) r) (first + k) 0 ≡ r
+    same = getD-set-same next (first + k) r 0 (omega (arith, h .long, f .weeks-most))
+
+    other : (t : ℕ) → (t ≡ first + k → ⊥) → getD (set next (first + k) r) t 0 ≡ getD next t 0
+    other t ne = getD-set-other next (first + k) t r 0 ne
+
+    below : (t : ℕ) → (t ≡ first + k → ⊥) → t + 1 < first + 1 + (k + 1) → t + 1 < first + 1 + k
+    below t ne h = ⊎-elim (λ (e : t ≡ first + k). absurd (ne e)) (λ (m : t < first + k). omega arith) (eq-or-lt-of-le (omega arith))
+
+    tallies : (t : ℕ) → t < p .weeks → Dec (t ≡ first + k) → Tallies p t (tallyOf (getD (set next (first + k) r) t 0))
+    tallies t d (yes e) =
+        subst (λ (z : ℕ). Tallies p z (tallyOf (getD (set next (first + k) r) z 0))) (sym e)
+        (subst (λ (x : ℕ). Tallies p (first + k) (tallyOf x)) (sym same) w)
+    tallies t d (no e) = subst (λ (x : ℕ). Tallies p t (tallyOf x)) (sym (other t e)) (h .tallies t d)
+
+    sets : (t : ℕ) → t < p .weeks → (i : ℕ) → Dec (t ≡ first + k)
+        → has (getD (set next (first + k) r) t 0 % 65536) i ≡ (has (getD rows t 0 % 65536) i || (eqb i j && inSpan (first + 1) (k + 1) t))
+    sets t d i (yes e) =
+        let x : inSpan (first + 1) (k + 1) (first + k) ≡ true = span-of (first + 1) (k + 1) (first + k) (omega arith) (omega arith) in
+        rw (e, same, x, and-last-true (eqb i j)) (g .sets i)
+    sets t d i (no e) =
+        let x : inSpan (first + 1) (k + 1) t ≡ inSpan (first + 1) k t
+        = same-test (inSpan (first + 1) (k + 1) t) (inSpan (first + 1) k t)
+        (λ s. span-of (first + 1) k t (span-from (first + 1) (k + 1) t s) (below t e (span-below (first + 1) (k + 1) t s)))
+        (λ s. span-of (first + 1) (k + 1) t (span-from (first + 1) k t s) (omega (arith, span-below (first + 1) k t s))) in
+        rw (other t e, x) (h .sets t d i)
+
+-- all weeks of its overhaul: one unit more is placed
+pub rows-ended : (ws : List ℕ) (l : Layout) (rows starts next : List ℕ) (j k weeks : ℕ) → Filed ws l → Due (problemOf ws) rows (startIn starts) j
+    → weeks ≡ problemOf ws .duration j → k ≤ weeks → weeks ≤ k → RowsTo (problemOf ws) rows j (getD starts j 0 - 1) k next
+    → Rows (problemOf ws) (placed (problemOf ws) (startIn starts) (j + 1)) next
+unfolding partly startIn
+rows-ended ws l rows starts next j k weeks f d e a b h = record {
+  long = h .long;
+  tallies = h .tallies;
+  sets = λ t m i.
+      let p = problemOf ws in
+      let q : k ≡ p .duration j = omega arith in
+      let s : getD starts j 0 - 1 + 1 ≡ getD starts j 0 = omega (arith, due-some ws l rows starts j f d) in
+      h .sets t m i ∙ rw (d .tallied .sets t m i, q, s) (partly-all p (startIn starts) j t i);
+}

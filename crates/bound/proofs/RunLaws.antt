@@ -1,0 +1,102 @@
+-- The runs of a schedule: the answer for a week as the run that the scan picks, the rows of all units, and a table of runs filled week by week.
+-- Assumes nothing.
+use Prim.Native.Nat.{ℕ, _+_, _%_, _≤_, _<_}
+use mathlib.Core.Path.{_≡_, sym, _∙_, ap, subst}
+use mathlib.Core.List.{List}
+use native.Mathlib.Omega.{arith}
+use lib.ListN.{length, getD, set}
+use borrow.Author.Tests.{lt-ltb}
+use Rattle.sums.specs.NumSet.{NumSet, has}
+use Rattle.sums.proofs.LoopLaws.{place-next}
+use Rattle.model.specs.declared.Layout.{Layout}
+use Rattle.model.specs.Problem.{Problem}
+use Rattle.model.specs.Schedule.{outIn}
+use Rattle.model.specs.Commitment.{Pick, nothing, picked, IsPick, Serves, cheapestRun}
+use Rattle.model.specs.Words.{problemOf}
+use Rattle.model.proofs.CommitmentLaws.{cheapest-right, cheapest-picked, none-picked, fewer-out}
+use Rattle.instance.specs.Filed.{Filed}
+use Rattle.instance.proofs.FiledLaws.{weeks-are, units-are}
+use Rattle.commitment.specs.declared.Found.{Found}
+use Rattle.commitment.specs.declared.Found.the-variants.{Nothing, Run}
+use Rattle.commitment.specs.Answers.{Answers}
+use Rattle.instance.specs.declared.Euro.{Euro}
+use Rattle.blame.specs.Placed.{placed, runOf, runAt}
+use Rattle.bound.specs.Rows.{Rows}
+use Rattle.bound.specs.Tests.{Due, Permits, RunsOf}
+
+-- ---- the answer for a week
+
+module _ (p : Problem) (t out : ℕ) (found : Found) (a : Answers p t (has out) found) where
+  -- no run
+  pub run-none : found ≡ Nothing → 0 ≡ runOf (cheapestRun p t (has out))
+  unfolding runOf
+  run-none e = rw (none-picked p t (has out) (subst (Answers p t (has out)) e a))
+
+  -- the cheapest
+  pub run-found : (r : ℕ) (c : Euro) → found ≡ Run r c → r ≡ runOf (cheapestRun p t (has out))
+  unfolding runOf
+  run-found r c e = rw (cheapest-picked p t (has out) r (subst (Answers p t (has out)) e a .0))
+
+-- the same units out leave the same run
+pub run-same : (p : Problem) (t : ℕ) (a b : NumSet) → ((i : ℕ) → i < p .units → a i ≡ b i) → cheapestRun p t a ≡ cheapestRun p t b
+run-same p t a b same = go (cheapestRun p t a) (cheapest-right p t a)
+  where
+    there : (r : ℕ) → Serves p t a r → Serves p t b r
+    there = fewer-out p t b a (λ i h e. same i h ∙ e)
+
+    back : (r : ℕ) → Serves p t b r → Serves p t a r
+    back = fewer-out p t a b (λ i h e. sym (same i h) ∙ e)
+
+    go : (f : Pick) → IsPick p t a f → f ≡ cheapestRun p t b
+    go nothing none = sym (none-picked p t b (λ r s. none r (back r s)))
+    go (picked r) c = sym (cheapest-picked p t b r (record {
+      serves = there r (c .serves);
+      least = λ q s. c .least q (back q s);
+      first = λ q s. c .first q (back q s);
+    }))
+
+-- ---- all units placed
+
+-- the next unit is to be placed
+pub due-of : (ws : List ℕ) (l : Layout) (rows : List ℕ) (starts : ℕ → ℕ) (j units : ℕ) → Filed ws l → Permits (problemOf ws) starts
+    → Rows (problemOf ws) (placed (problemOf ws) starts j) rows → units ≡ l .units → j < units → Due (problemOf ws) rows starts j
+due-of ws l rows starts j units f g h e b =
+    let u : j < problemOf ws .units = omega (arith, units-are ws l f) in
+    record { unit = u; permits = g .each j u; tallied = h }
+
+-- all of them
+pub all-placed : (p : Problem) (rows : List ℕ) (starts : ℕ → ℕ) (j units n : ℕ) → Rows p (placed p starts j) rows → j ≤ units → units ≤ j → n ≡ units
+    → Rows p (placed p starts n) rows
+all-placed p rows starts j units n h a b e = let q : j ≡ n = omega arith in subst (λ (k : ℕ). Rows p (placed p starts k) rows) q h
+
+-- ---- a table of runs
+
+-- the first n places of the table hold the cheapest runs of their weeks, with the units of the rows out
+pub record RunsTo (p : Problem) (rows : List ℕ) (n : ℕ) (table : List ℕ) : Type 0 where
+  pub each : (t : ℕ) → t < n → getD table t 0 ≡ runOf (cheapestRun p t (has (getD rows t 0 % 65536)))
+
+-- none yet
+pub runs-start : (p : Problem) (rows table : List ℕ) → RunsTo p rows 0 table
+runs-start p rows table = record { each = λ t l. absurd (omega arith) }
+
+-- one week more
+pub runs-next : (p : Problem) (rows table : List ℕ) (t weeks r : ℕ) → RunsTo p rows t table → length table ≡ 52 → t < weeks → weeks ≤ 52
+    → r ≡ runOf (cheapestRun p t (has (getD rows t 0 % 65536))) → RunsTo p rows (t + 1) (set table t r)
+runs-next p rows table t weeks r h long b few e = record {
+  each = place-next (λ (q x : ℕ). x ≡ runOf (cheapestRun p q (has (getD rows q 0 % 65536)))) table t r (omega arith) e (h .each);
+}
+
+-- all of them
+pub runs-ended : (ws : List ℕ) (l : Layout) (rows table : List ℕ) (starts : ℕ → ℕ) (t weeks : ℕ) → Filed ws l
+    → Rows (problemOf ws) (placed (problemOf ws) starts (l .units)) rows → RunsTo (problemOf ws) rows t table → weeks ≡ l .weeks → weeks ≤ t
+    → RunsOf (problemOf ws) starts table
+unfolding placed runAt
+runs-ended ws l rows table starts t weeks f g h e b = record {
+  each = λ q m.
+      let d : q < t = omega (arith, weeks-are ws l f) in
+      h .each q d
+      ∙ ap runOf (run-same (problemOf ws) q (has (getD rows q 0 % 65536)) (outIn (problemOf ws) starts q) (λ i k. g .sets q m i ∙ out q i k));
+}
+  where
+    out : (q i : ℕ) → i < problemOf ws .units → placed (problemOf ws) starts (l .units) q i ≡ outIn (problemOf ws) starts q i
+    out q i k = rw (lt-ltb i (l .units) (omega (arith, units-are ws l f)))

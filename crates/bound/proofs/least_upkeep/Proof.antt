@@ -1,0 +1,57 @@
+-- `bound::least_upkeep` meets its contract: the smallest so far is at most what the permitted starts so far cost.
+-- Assumes nothing.
+use Prim.Native.Nat.{_-_}
+use Rattle.model.specs.Words.{problemOf}
+use Rattle.bound.proofs.FloorLaws.{LeastTo, least-start, start-permitted, least-next, least-ended, least-most}
+use borrow.Author.Needs.{needs}
+use Rattle.bound.proofs.least_upkeep.Statement.{statement}
+use Rattle.bound.proofs.least_upkeep.Tie as tie
+
+abbrev Inv-loop : tie.InvT-loop
+Inv-loop words l i least₀ s₀ s-end least s = LeastTo (problemOf words) i s₀ s-end s (least .0)
+
+abbrev μ-loop : tie.MeasureT-loop
+μ-loop words l i least₀ s₀ s-end least s = s-end - s
+
+starts-of-requires : tie.Need-starts-of-requires Inv-loop μ-loop
+starts-of-requires c κs = search needs
+
+add-s-end : tie.Need-add-s-end Inv-loop μ-loop
+add-s-end c = search needs
+
+loop-holds : tie.Need-loop-holds Inv-loop μ-loop
+loop-holds c = search least-start
+
+upkeep-requires : tie.Need-upkeep-requires Inv-loop μ-loop
+upkeep-requires c κs = search (needs, start-permitted)
+
+smaller-requires : tie.Need-smaller-requires Inv-loop μ-loop
+smaller-requires c κs = search needs
+
+add-s : tie.Need-add-s Inv-loop μ-loop
+add-s c = search needs
+
+loop-less : tie.Need-loop-less Inv-loop μ-loop
+loop-less c = search needs
+
+loop-again : tie.Need-loop-again Inv-loop μ-loop
+loop-again c = search least-next
+
+returns : tie.Need-returns Inv-loop μ-loop
+returns c = (search least-ended, search least-most)
+
+pub least-upkeep-spec : {M : Type 1} → statement M
+least-upkeep-spec =
+    tie.close
+    (tie.spec
+    Inv-loop
+    μ-loop
+    starts-of-requires
+    add-s-end
+    loop-holds
+    upkeep-requires
+    smaller-requires
+    add-s
+    loop-less
+    loop-again
+    returns)

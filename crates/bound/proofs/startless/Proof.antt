@@ -1,0 +1,54 @@
+-- `bound::startless` meets its contract: a range of starts whose last lies before its first is empty, and no other is.
+-- Assumes nothing.
+use Prim.Native.Nat.{_-_, _≤_}
+use mathlib.Core.Path.{_≡_, refl}
+use mathlib.Core.Bool.{false}
+use Rattle.sums.specs.Range.{someTo}
+use Rattle.model.specs.Words.{problemOf}
+use Rattle.bound.specs.Tests.{noStart}
+use Rattle.bound.proofs.FloorLaws.{startless-found, startless-next, startless-ended}
+use borrow.Author.Needs.{needs}
+use Rattle.bound.proofs.startless.Statement.{statement}
+use Rattle.bound.proofs.startless.Tie as tie
+
+abbrev Inv-loop : tie.InvT-loop
+Inv-loop words l units i₀ i = (i ≤ units) × (someTo i (noStart (problemOf words)) ≡ false)
+
+abbrev μ-loop : tie.MeasureT-loop
+μ-loop words l units i₀ i = units - i
+
+loop-holds : tie.Need-loop-holds Inv-loop μ-loop
+unfolding someTo
+loop-holds c = (search needs, refl)
+
+starts-of-requires : tie.Need-starts-of-requires Inv-loop μ-loop
+starts-of-requires c κs = search needs
+
+returns : tie.Need-returns Inv-loop μ-loop
+returns c = search startless-found
+
+add-i : tie.Need-add-i Inv-loop μ-loop
+add-i c = search needs
+
+loop-less : tie.Need-loop-less Inv-loop μ-loop
+loop-less c = search needs
+
+loop-again : tie.Need-loop-again Inv-loop μ-loop
+loop-again c = (search needs, search startless-next)
+
+returns-2 : tie.Need-returns-2 Inv-loop μ-loop
+returns-2 c = search startless-ended
+
+pub startless-spec : {M : Type 1} → statement M
+startless-spec =
+    tie.close
+    (tie.spec
+    Inv-loop
+    μ-loop
+    loop-holds
+    starts-of-requires
+    returns
+    add-i
+    loop-less
+    loop-again
+    returns-2)

@@ -1,0 +1,19 @@
+-- `capi::novelbrisca_ask_place` meets its contract: the verdict of `planner::run_verdict`.
+-- Assumes nothing.
+use Rattle.capi.proofs.CodeLaws.{codes}
+use borrow.Author.Needs.{needs}
+use Rattle.capi.proofs.novelbrisca_ask_place.Statement.{statement}
+use Rattle.capi.proofs.novelbrisca_ask_place.Tie as tie
+
+run-verdict-requires : tie.Need-run-verdict-requires
+run-verdict-requires c κs = search needs
+
+refusal-place-requires : tie.Need-refusal-place-requires
+refusal-place-requires c κs = search needs
+
+returns : tie.Need-returns
+returns c = search codes
+
+pub novelbrisca-ask-place-spec : {M : Type 1} → statement M
+novelbrisca-ask-place-spec =
+    tie.close (tie.spec run-verdict-requires refusal-place-requires returns)

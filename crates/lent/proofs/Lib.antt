@@ -1,0 +1,2 @@
+-- words set to 0 one after the other
+pub mod EmptyLaws

@@ -1,0 +1,111 @@
+-- A nogood read word by word, from its bound to the last of its choices.
+-- Assumes nothing.
+use Prim.Native.Nat.{ℕ, _+_, _-_, _/_, _%_, _≤_, _<_}
+use mathlib.Core.Path.{_≡_, refl, sym, _∙_, ap, subst}
+use mathlib.Core.Bool.{true, _||_}
+use mathlib.Core.List.{List}
+use native.Mathlib.Decide.{decLt, ℕ-discrete}
+use native.Mathlib.Omega.{arith}
+use lib.ListN.{length, getD, List·getD-eq-default}
+use lib.Dec.{eqb}
+use borrow.Author.Tests.{eq-eqb, ne-eqb}
+use Rattle.sums.specs.NumSet.{has}
+use Rattle.sums.proofs.LogicLaws.{true-false, or-left, or-right, or-last-false}
+use Rattle.sums.proofs.NumSetLaws.{zero-has}
+use Rattle.model.specs.Words.{kindOf, valueOf}
+use Rattle.blame.specs.Closed.{startIn}
+use Rattle.nogood.specs.declared.Hit.{Hit}
+use Rattle.nogood.specs.declared.Hit.the-variants.{Miss, Cut}
+use Rattle.nogood.specs.Recall.{Chosen, UnitMet, Choices, Match, Matched, Recall, Recalled}
+
+-- ---- a choice
+
+-- no unit
+pub unit-none : (xs : List ℕ) (k x : ℕ) → UnitMet xs k x 0
+unit-none xs k x = record { most = omega arith; unit = λ l. absurd (omega arith); start = λ l. absurd (omega arith) }
+
+-- a unit whose start xs has
+pub unit-some : (xs : List ℕ) (k x v s : ℕ) → v ≡ valueOf x → v / 64 ≤ k → s ≡ startIn xs (v / 64 - 1) → s ≡ v % 64 → UnitMet xs k x (v / 64)
+unit-some xs k x v s is l e f = record {
+  most = l;
+  unit = λ z. ap (λ (t : ℕ). t / 64) is;
+  start = λ z. sym e ∙ f ∙ ap (λ (t : ℕ). t % 64) is;
+}
+
+-- ---- choice by choice
+
+-- whoever has the starts of xs for the units of b, all below k, has the choices after i and before m
+pub record Reading (w xs : List ℕ) (k i b m : ℕ) : Type 0 where
+  pub after : i < m
+  pub upto : m ≤ length w
+  pub chosen : (starts : ℕ → ℕ) → ((q : ℕ) → has b q ≡ true → starts q ≡ startIn xs q) → (q : ℕ) → i < q → q < m → Chosen starts (getD w q 0)
+  pub within : (q : ℕ) → has b q ≡ true → q < k
+
+-- none read yet
+pub reading-start : (w xs : List ℕ) (k i : ℕ) → i < length w → Reading w xs k i 0 (i + 1)
+reading-start w xs k i l = record {
+  after = omega arith;
+  upto = omega arith;
+  chosen = λ starts on q x y. absurd (omega arith);
+  within = λ q h. true-false (sym h ∙ zero-has q);
+}
+
+-- one more, which xs has
+pub reading-next : (w xs : List ℕ) (k i b r m u : ℕ) → Reading w xs k i b m → m < length w → UnitMet xs k (getD w m 0) u → 1 ≤ u
+    → ((j : ℕ) → has r j ≡ (has b j || eqb j (u - 1))) → Reading w xs k i r (m + 1)
+reading-next w xs k i b r m u h l met low joined = record {
+  after = let a = h .after in omega arith;
+  upto = omega arith;
+  chosen = λ starts on q x y. by starts on q x y (ℕ-discrete q m);
+  within = λ q x. inside q x (ℕ-discrete q (u - 1));
+}
+  where
+    old : (j : ℕ) → has b j ≡ true → has r j ≡ true
+    old j x = joined j ∙ or-left (has b j) (eqb j (u - 1)) x
+
+    new : has r (u - 1) ≡ true
+    new = joined (u - 1) ∙ or-right (has b (u - 1)) (eqb (u - 1) (u - 1)) (eq-eqb (u - 1) (u - 1) refl)
+
+    inside : (q : ℕ) → has r q ≡ true → Dec (q ≡ u - 1) → q < k
+    inside q x (yes z) = let t = met .most in omega arith
+    inside q x (no z) = h .within q (sym (joined q ∙ rw (ne-eqb q (u - 1) z) (or-last-false (has b q))) ∙ x)
+
+    by : (starts : ℕ → ℕ) → ((j : ℕ) → has r j ≡ true → starts j ≡ startIn xs j) → (q : ℕ) → i < q → q < m + 1 → Dec (q ≡ m)
+        → Chosen starts (getD w q 0)
+    by starts on q x y (yes z) =
+        let c : starts (u - 1) ≡ valueOf (getD w m 0) % 64 = on (u - 1) new ∙ met .start low in
+        subst (λ (t : ℕ). Chosen starts (getD w t 0)) (sym z) (subst (λ (t : ℕ). starts (t - 1) ≡ valueOf (getD w m 0) % 64) (met .unit low) c)
+    by starts on q x y (no z) = h .chosen starts (λ j g. on j (old j g)) q x (omega arith)
+
+reading-stop : (w xs : List ℕ) (k i b m : ℕ) → Reading w xs k i b m → (kindOf (getD w m 0) ≡ 14 → ⊥) → Match w xs k i b
+reading-stop w xs k i b m h stop = record {
+  takes = λ starts on. record { each = λ q x run. by starts on q x run (decLt q m) };
+  within = h .within;
+}
+  where
+    by : (starts : ℕ → ℕ) → ((j : ℕ) → has b j ≡ true → starts j ≡ startIn xs j) → (q : ℕ) → i < q → Choices w i q → Dec (q < m)
+        → Chosen starts (getD w q 0)
+    by starts on q x run (yes z) = h .chosen starts on q x z
+    by starts on q x run (no z) = absurd (stop (run m (h .after) (omega arith)))
+
+-- the next word is no choice
+pub reading-end : (w xs : List ℕ) (k i b m kind : ℕ) → Reading w xs k i b m → kind ≡ kindOf (getD w m 0) → (kind ≡ 14 → ⊥) → Match w xs k i b
+reading-end w xs k i b m kind h is ne = reading-stop w xs k i b m h (λ e. ne (is ∙ e))
+
+-- there is no next word
+pub reading-out : (w xs : List ℕ) (k i b m : ℕ) → Reading w xs k i b m → length w ≤ m → Match w xs k i b
+unfolding kindOf
+reading-out w xs k i b m h l = reading-stop w xs k i b m h (λ e. absurd (omega (arith, e, List·getD-eq-default w 0 l)))
+
+-- ---- the nogood at a place
+
+-- its bound covers the limit, and whoever was met has its choices
+pub recalled : (w xs : List ℕ) (k limit i kind v : ℕ) (h : Hit) → kind ≡ kindOf (getD w i 0) → kind ≡ 13 → v ≡ valueOf (getD w i 0) → limit ≤ v + 1
+    → i < length w → Matched w xs k i h → Recalled w xs k limit h
+recalled w xs k limit i kind v Miss e f g c l m = tt
+recalled w xs k limit i kind v (Cut b) e f g c l m =
+    record { at = i; below = l; bound = sym e ∙ f; covers = subst (λ (x : ℕ). limit ≤ x + 1) g c; match = m }
+
+-- the answer is told as it came
+pub told : (w xs : List ℕ) (k limit b : ℕ) (h : Hit) → Recalled w xs k limit h → h ≡ Cut b → Recall w xs k limit b
+told w xs k limit b h r e = subst (Recalled w xs k limit) e r

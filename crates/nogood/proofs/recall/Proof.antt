@@ -1,0 +1,56 @@
+-- `nogood::recall` meets its contract: what is met at one place is met in the table.
+-- Assumes nothing.
+use Prim.Native.Nat.{_-_}
+use borrow.Author.Needs.{needs}
+use Rattle.nogood.proofs.RecallLaws.{told}
+use Rattle.nogood.proofs.recall.Statement.{statement}
+use Rattle.nogood.proofs.recall.Tie as tie
+
+abbrev Inv-loop : tie.InvT-loop
+Inv-loop table from to starts k limit i₀ i = Unit {0}
+
+abbrev μ-loop : tie.MeasureT-loop
+μ-loop table from to starts k limit i₀ i = to - i
+
+loop-holds : tie.Need-loop-holds Inv-loop μ-loop
+loop-holds c = tt
+
+meets-requires : tie.Need-meets-requires Inv-loop μ-loop
+meets-requires c κs = search needs
+
+enum-known-h : tie.Need-enum-known-h Inv-loop μ-loop
+enum-known-h c = search needs
+
+returns : tie.Need-returns Inv-loop μ-loop
+returns c = search told
+
+enum-told : tie.Need-enum-told Inv-loop μ-loop
+enum-told c = search needs
+
+add-i : tie.Need-add-i Inv-loop μ-loop
+add-i c = search needs
+
+loop-less : tie.Need-loop-less Inv-loop μ-loop
+loop-less c = search needs
+
+loop-again : tie.Need-loop-again Inv-loop μ-loop
+loop-again c = tt
+
+returns-2 : tie.Need-returns-2 Inv-loop μ-loop
+returns-2 c = tt
+
+pub recall-spec : {M : Type 1} → statement M
+recall-spec =
+    tie.close
+    (tie.spec
+    Inv-loop
+    μ-loop
+    loop-holds
+    meets-requires
+    enum-known-h
+    returns
+    enum-told
+    add-i
+    loop-less
+    loop-again
+    returns-2)

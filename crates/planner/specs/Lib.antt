@@ -1,0 +1,2 @@
+-- the words of an ask and of its block
+pub mod Block

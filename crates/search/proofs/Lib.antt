@@ -1,0 +1,18 @@
+-- places passed: how many starts lie below one, and the measure of the recursion
+pub mod PlaceLaws
+-- one state after another
+pub mod StateLaws
+-- a dead end noted
+pub mod LearntLaws
+-- a start judged
+pub mod JudgedLaws
+-- a start tried
+pub mod TryLaws
+-- the starts of a unit in turn
+pub mod UnitLaws
+-- the same on a file's words
+pub mod CallLaws
+-- the answer of a walk that has ended
+pub mod ReplyLaws
+-- a whole ask
+pub mod AskLaws

@@ -1,0 +1,72 @@
+-- One state of the walk after another: the relation carries the limit, the best so far and the table, and each small change of a state keeps it.
+-- Assumes nothing.
+use Prim.Native.Nat.{ℕ, _+_, _-_, _≤_, _<_}
+use mathlib.Core.Path.{refl, sym, _∙_, subst}
+use mathlib.Core.List.{List}
+use native.Mathlib.Nat.{le-refl, le-trans}
+use native.Mathlib.Omega.{arith}
+use Rattle.sums.proofs.LogicLaws.{true-false}
+use Rattle.model.specs.Problem.{Problem}
+use Rattle.instance.specs.declared.Euro.{Euro}
+use Rattle.state.specs.declared.State.{State}
+use Rattle.state.specs.State.{triedOnce, stoppedAt, improvedBy}
+use Rattle.search.specs.Walk.{Leads, Held, Later}
+
+-- nothing has happened
+pub later-same : (p : Problem) (w : List ℕ) (st : State) → Later p w st w st
+later-same p w st = record {
+  falls = le-refl (st .limit .0);
+  kept = λ c h. h;
+  stock = λ alone h. h;
+  room = λ n h g. h;
+  long = refl;
+}
+
+-- one after the other
+pub later-next : (p : Problem) (w w₁ w₂ : List ℕ) (a b c : State) → Later p w a w₁ b → Later p w₁ b w₂ c → Later p w a w₂ c
+later-next p w w₁ w₂ a b c x y = record {
+  falls = le-trans (y .falls) (x .falls);
+  kept = λ ceiling h. y .kept ceiling (x .kept ceiling h);
+  stock = λ alone h. y .stock alone (x .stock alone h);
+  room = λ n h g. y .room n (x .room n h g) (subst (λ (k : ℕ). k - 32 ≤ n) (sym (x .long)) g);
+  long = y .long ∙ x .long;
+}
+
+-- the table still holds what is true
+pub held-later : (p : Problem) (w w′ : List ℕ) (st st′ : State) → Held p w (st .used) → Later p w st w′ st′ → Held p w′ (st′ .used)
+held-later p w w′ st st′ h l = record { alone = h .alone; stock = l .stock (h .alone) (h .stock) }
+
+-- a try is counted
+pub later-tried : (p : Problem) (w : List ℕ) (st : State) → Later p w st w (triedOnce st)
+later-tried p w st = record {
+  falls = le-refl (st .limit .0);
+  kept = λ c h. record { under = h .under; none = h .none; plan = h .plan };
+  stock = λ alone h. h;
+  room = λ n h g. h;
+  long = refl;
+}
+
+-- the mark is set
+pub later-stopped : (p : Problem) (w xs : List ℕ) (k : ℕ) (st : State) → Later p w st w (stoppedAt st xs k .state)
+later-stopped p w xs k st = record {
+  falls = le-refl (st .limit .0);
+  kept = λ c h. record { under = h .under; none = h .none; plan = h .plan };
+  stock = λ alone h. h;
+  room = λ n h g. h;
+  long = refl;
+}
+
+-- a better schedule is found, which leads under every ceiling that the limit is under
+pub later-improved : (p : Problem) (w xs : List ℕ) (c : Euro) (st : State) → c .0 < st .limit .0
+    → ((ceiling : ℕ) → st .limit .0 ≤ ceiling + 1 → Leads p ceiling xs (c .0)) → Later p w st w (improvedBy st xs c)
+later-improved p w xs c st less leads = record {
+  falls = omega arith;
+  kept = λ ceiling h. record {
+    under = omega (arith, h .under);
+    none = λ e. true-false e;
+    plan = λ e. leads ceiling (h .under);
+  };
+  stock = λ alone h. h;
+  room = λ n h g. h;
+  long = refl;
+}

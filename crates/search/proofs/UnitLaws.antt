@@ -1,0 +1,302 @@
+-- The starts of a unit in turn: what is known when the next is tried, when the budget is spent, when the walk jumps back, and when all have failed.
+-- Assumes nothing.
+use Prim.Native.Nat.{ℕ, suc, _+_, _-_, _*_, _≤_, _<_}
+use mathlib.Core.Path.{_≡_, refl, sym, _∙_, ap, subst}
+use mathlib.Core.Bool.{Bool, true, false, not, _&&_, _||_}
+use mathlib.Core.List.{List}
+use mathlib.Core.Logic.{_⊎_, inl, inr, ⊎-elim}
+use native.Mathlib.Nat.{le-trans, suc-mul, mul-le-mul-right}
+use native.Mathlib.Decide.{ℕ-discrete, decLt}
+use native.Mathlib.Omega.{arith}
+use lib.ListN.{length, set, length-set}
+use lib.Dec.{ltb, leb, eqb}
+use borrow.Author.Tests.{ltb-true, leb-true, lt-ltb, le-leb, eq-eqb, ne-eqb}
+use Rattle.sums.specs.NumSet.{has}
+use Rattle.sums.proofs.LogicLaws.{true-false, and-of, and-left, and-right, or-left, or-right}
+use Rattle.sums.proofs.NumSetLaws.{zero-has}
+use Rattle.model.specs.Problem.{Problem}
+use Rattle.model.specs.Domain.{permitted, startCount}
+use Rattle.model.specs.Schedule.{Schedule, Sound, cost}
+use Rattle.model.specs.Order.{Same, Lower}
+use Rattle.overhaul.specs.Range.{StartRange}
+use Rattle.overhaul.proofs.StartLaws.{start-count}
+use Rattle.blame.specs.Closed.{startIn, Agree, Closed, Settled}
+use Rattle.blame.specs.Placed.{placed}
+use Rattle.blame.proofs.PlacedLaws.{placed-agree, standing-agree, paid-agree}
+use Rattle.bound.specs.Rows.{Rows}
+use Rattle.bound.specs.Tests.{Stands}
+use Rattle.state.specs.declared.State.{State}
+use Rattle.state.specs.declared.Step.{Step}
+use Rattle.state.specs.declared.Walked.the-variants.{Dead, Spent}
+use Rattle.state.specs.State.{deadAt}
+use Rattle.search.specs.Walk.{Later, UpTo, BeforeStart, Open, Untried, Over, Halted, Ends, Done, tryRoom, placeRoom}
+use Rattle.search.proofs.PlaceLaws.{put-here, put-other, put-below, passed-start}
+use Rattle.search.proofs.StateLaws.{later-same, later-next, held-later}
+
+-- every sound schedule with the starts of xs for the units of b, and with a start of unit j below v, costs at least the limit
+pub record Tried (p : Problem) (xs : List ℕ) (j v b limit : ℕ) : Type 0 where
+  pub costs : (s : Schedule) → Sound p s → Agree p (has b) (startIn xs) (s .start) → s .start j < v → limit ≤ cost p s
+
+-- the starts of unit j from the first on and below v have failed, by the starts of the units of `blame`
+pub record Trying (p : Problem) (w₀ w xs : List ℕ) (j : ℕ) (st₀ st : State) (blame first v : ℕ) : Type 0 where
+  pub later : Later p w₀ st₀ w st
+  pub tried : Tried p xs j v blame (st .limit .0)
+  pub under : (i : ℕ) → has blame i ≡ true → i < j
+  pub counted : st .tries ≤ st₀ .tries + (v - first) * tryRoom p j
+  pub from : first ≤ v
+  pub reach : v - first ≤ startCount p j
+  pub past : st .found ≡ true → BeforeStart (st .best) xs j v
+
+-- ---- the best, and the place of the next start
+
+module _ (best xs : List ℕ) (j v : ℕ) (long : j < length xs) where
+  -- before the place of the next start
+  before-place : BeforeStart best xs j v → Lower ltb (j + 1) (startIn best) (startIn (set xs j v))
+  before-place (inl l) = let h = l .below in record {
+    at = l .at;
+    below = omega arith;
+    same = λ k d. l .same k d ∙ sym (put-below xs j v k (omega arith));
+    less = subst (λ (n : ℕ). ltb (startIn best (l .at)) n ≡ true) (sym (put-below xs j v (l .at) h)) (l .less);
+  }
+  before-place (inr (same, less)) = record {
+    at = j;
+    below = omega arith;
+    same = λ k d. same k d ∙ sym (put-below xs j v k d);
+    less = subst (λ (n : ℕ). ltb (startIn best j) n ≡ true) (sym (put-here xs j v long)) (lt-ltb (startIn best j) v less);
+  }
+
+  -- what is lower at or before unit j
+  lower-place : (f : ℕ → ℕ) → Lower ltb (j + 1) f (startIn (set xs j v)) → Lower ltb j f (startIn xs) ⊎ (Same j f (startIn xs) × (f j < v))
+  lower-place f l = by (ℕ-discrete (l .at) j)
+    where
+      by : Dec (l .at ≡ j) → Lower ltb j f (startIn xs) ⊎ (Same j f (startIn xs) × (f j < v))
+      by (yes e) = inr (
+        (λ k d. l .same k (omega arith) ∙ put-below xs j v k d),
+        ltb-true (f j) v (subst (λ (n : ℕ). ltb (f j) n ≡ true) (put-here xs j v long) (subst (λ (k : ℕ). ltb (f k) (startIn
+            (set xs j v) k) ≡ true) e (l .less))),
+      )
+      by (no ne) =
+          let h = l .below in
+          let below : l .at < j = omega arith in
+          inl (record {
+            at = l .at;
+            below = below;
+            same = λ k d. l .same k d ∙ put-below xs j v k (omega arith);
+            less = subst (λ (n : ℕ). ltb (f (l .at)) n ≡ true) (put-below xs j v (l .at) below) (l .less);
+          })
+
+  -- a best at or before this start is before the next
+  past-next : UpTo best (set xs j v) (j + 1) → BeforeStart best xs j (v + 1)
+  past-next (inl l) = ⊎-elim (λ a. inl a) (λ b. inr (b .0, omega (arith, b .1))) (lower-place (startIn best) l)
+  past-next (inr same) = inr (
+    (λ k d. same k (omega arith) ∙ put-below xs j v k d),
+    (let e = same j (omega arith) in let h = put-here xs j v long in omega arith),
+  )
+
+-- a best before a start of unit j is before the units below it, or begins with them
+past-up : (best xs : List ℕ) (j v : ℕ) → BeforeStart best xs j v → UpTo best xs j
+past-up best xs j v (inl l) = inl l
+past-up best xs j v (inr b) = inr (b .0)
+
+-- ---- the next start
+
+-- no start was tried
+pub trying-none : (p : Problem) (w rows xs : List ℕ) (j sum : ℕ) (st : State) (first last : ℕ) → StartRange p j first last → Open p w rows xs j sum st
+    → Trying p w w xs j st st 0 first first
+trying-none p w rows xs j sum st first last range o = record {
+  later = later-same p w st;
+  tried = record { costs = λ s sound agree less. absurd (early s sound less) };
+  under = λ i e. true-false (sym e ∙ zero-has i);
+  counted = omega arith;
+  from = omega arith;
+  reach = omega arith;
+  past = λ e. inl (o .past e);
+}
+  where
+    early : (s : Schedule) → Sound p s → s .start j < first → ⊥
+    early s sound less =
+        let e = range .exact (s .start j) in
+        let h = leb-true first (s .start j) (and-left (leb first (s .start j)) (leb (s .start j) last) (sym e
+        ∙ sound .schedule .permits j (o .unit))) in
+        omega arith
+
+module _ (p : Problem) (w₀ w rows xs : List ℕ) (j sum : ℕ) (st₀ st : State) (blame first last v : ℕ)
+    (range : StartRange p j first last) (ends : last ≤ p .weeks) (o : Open p w₀ rows xs j sum st₀) (t : Trying p w₀ w xs j st₀ st blame first v)
+    (here : v ≤ last) where
+  long : j < length xs
+  long = omega (arith, o .unit, o .long)
+
+  -- unit j has a permitted start
+  pub some-start : 0 < startCount p j
+  some-start = omega (arith, start-count p j first last range ends, t .from)
+
+  permits-here : permitted p j v ≡ true
+  permits-here = range .exact v ∙ and-of (leb first v) (leb v last) (le-leb first v (t .from)) (le-leb v last here)
+
+  -- all schedules before this start
+  settled-here : Settled p (startIn (set xs j v)) (j + 1) (st .limit .0)
+  settled-here = record { costs = λ s sound l. ⊎-elim (before s sound) (inside s sound) (lower-place xs xs j v long (s .start) l) }
+    where
+      before : (s : Schedule) → Sound p s → Lower ltb j (s .start) (startIn xs) → st .limit .0 ≤ cost p s
+      before s sound l = le-trans (t .later .falls) (o .settled .costs s sound l)
+
+      inside : (s : Schedule) → Sound p s → Same j (s .start) (startIn xs) × (s .start j < v) → st .limit .0 ≤ cost p s
+      inside s sound m = t .tried .costs s sound (λ i h e. m .0 i (t .under i e)) (m .1)
+
+  stands-here : Stands p (startIn (set xs j v)) j sum
+  stands-here =
+      let same : Same j (startIn xs) (startIn (set xs j v)) = λ k d. sym (put-below xs j v k d) in
+      record {
+        standing = standing-agree p (startIn xs) (startIn (set xs j v)) j same (o .stands .standing);
+        sums = o .stands .sums ∙ paid-agree p (startIn xs) (startIn (set xs j v)) j same;
+      }
+
+  tallied-here : Rows p (placed p (startIn (set xs j v)) j) rows
+  tallied-here = record {
+    long = o .tallied .long;
+    tallies = o .tallied .tallies;
+    sets = λ d l i. o .tallied .sets d l i ∙ placed-agree p (startIn xs) (startIn (set xs j v)) j (λ k m. sym (put-below xs j v k m)) d i;
+  }
+
+  -- the next start is tried
+  pub untried : Untried p w rows (set xs j v) j sum st
+  untried = record {
+    unit = o .unit;
+    long = omega (arith, o .long, length-set xs j v);
+    permits = ap (permitted p j) (put-here xs j v long) ∙ permits-here;
+    stands = stands-here;
+    tallied = tallied-here;
+    settled = settled-here;
+    past = λ e. before-place (st .best) xs j v long (t .past e);
+    counted =
+        let e = passed-start p xs j first last v range (omega arith) long in
+        omega (arith, e, t .counted, o .counted);
+    small = le-trans (t .later .falls) (o .small);
+    held = held-later p w₀ w st₀ st (o .held) (t .later);
+  }
+
+  -- a start more is counted
+  counted-next : (v + 1 - first) * tryRoom p j ≡ (v - first) * tryRoom p j + tryRoom p j
+  counted-next =
+      let e : v + 1 - first ≡ suc (v - first) = omega (arith, t .from) in
+      ap (λ (n : ℕ). n * tryRoom p j) e ∙ suc-mul (v - first) (tryRoom p j)
+
+  reach-next : v + 1 - first ≤ startCount p j
+  reach-next = omega (arith, start-count p j first last range ends)
+
+  -- so far it stays within the places below the unit's starts
+  within-room : (n : ℕ) → n ≤ st .tries + tryRoom p j → n ≤ st₀ .tries + placeRoom p j
+  within-room n h =
+      let m : (v + 1 - first) * tryRoom p j ≤ startCount p j * tryRoom p j = mul-le-mul-right (tryRoom p j) reach-next in
+      omega (arith, m, counted-next, t .counted)
+
+  module _ (budget : ℕ) (w′ : List ℕ) (step : Step) (d : Done p budget w w′ (set xs j v) (j + 1) (tryRoom p j) st step) where
+    later-here : Later p w₀ st₀ w′ (step .state)
+    later-here = later-next p w₀ w w′ st₀ st (step .state) (t .later) (d .later)
+
+    -- the budget is spent
+    pub done-spent : (m : ℕ) → step .walked ≡ Spent m → Done p budget w₀ w′ xs j (placeRoom p j) st₀ step
+    done-spent m e =
+        let h : Halted p budget (step .state) m = subst (Ends p budget (set xs j v) (j + 1) (step .state)) e (d .ends) in
+        record {
+          later = later-here;
+          counted = within-room (step .state .tries) (d .counted);
+          ends = subst (Ends p budget xs j (step .state)) (sym e) h;
+        }
+
+    module _ (b : ℕ) (e : step .walked ≡ Dead b) where
+      over : Over p (set xs j v) (j + 1) (step .state) b
+      over = subst (Ends p budget (set xs j v) (j + 1) (step .state)) e (d .ends)
+
+      -- unit j has no share in the blame: the walk jumps back
+      pub done-jump : has b j ≡ false → Done p budget w₀ w′ xs j (placeRoom p j) st₀ step
+      done-jump free = record {
+        later = later-here;
+        counted = within-room (step .state .tries) (d .counted);
+        ends = subst (Ends p budget xs j (step .state)) (sym e) (record {
+          closed = record {
+            costs = λ s sound agree. over .closed .costs s sound (λ i h f. agree i h f ∙ sym (put-other xs j v i (other i f)));
+          };
+          within = λ i f. below i f (over .within i f);
+          past = λ f. past-up (step .state .best) xs j (v + 1) (past-next (step .state .best) xs j v long (over .past f));
+        });
+      }
+        where
+          other : (i : ℕ) → has b i ≡ true → i ≡ j → ⊥
+          other i f q = true-false (sym f ∙ (ap (has b) q ∙ free))
+
+          below : (i : ℕ) → has b i ≡ true → i < j + 1 → i < j
+          below i f l = let ne = other i f in omega arith
+
+      -- unit j shares the blame: the others are kept
+      pub trying-more : (rest both : ℕ) → ((k : ℕ) → has rest k ≡ (has b k && not (eqb k j))) → ((k : ℕ) → has both k ≡ (has blame k || has rest k))
+          → Trying p w₀ w′ xs j st₀ (step .state) both first (v + 1)
+      trying-more rest both without union = record {
+        later = later-here;
+        tried = record { costs = λ s sound agree less. by s sound agree less (decLt (s .start j) v) };
+        under = λ i f. under i (union i) f;
+        counted = omega (arith, d .counted, t .counted, counted-next);
+        from = omega (arith, t .from);
+        reach = reach-next;
+        past = λ f. past-next (step .state .best) xs j v long (over .past f);
+      }
+        where
+          left : (i : ℕ) → has blame i ≡ true → has both i ≡ true
+          left i f = union i ∙ or-left (has blame i) (has rest i) f
+
+          right : (i : ℕ) → has b i ≡ true → (i ≡ j → ⊥) → has both i ≡ true
+          right i f ne =
+              union i ∙ or-right (has blame i) (has rest i) (without i ∙ and-of (has b i) (not (eqb i j)) f (ap not (ne-eqb i j ne)))
+
+          under : (i : ℕ) → has both i ≡ (has blame i || has rest i) → has both i ≡ true → i < j
+          under i q f = go (has blame i) refl (sym q ∙ f)
+            where
+              go : (c : Bool) → has blame i ≡ c → (c || has rest i) ≡ true → i < j
+              go true z g = t .under i z
+              go false z g =
+                  let m = over .within i (and-left (has b i) (not (eqb i j)) (sym (without i) ∙ g)) in
+                  let n = and-right (has b i) (not (eqb i j)) (sym (without i) ∙ g) in
+                  let ne : i ≡ j → ⊥ = λ y. true-false (sym n ∙ ap not (eq-eqb i j y)) in
+                  omega arith
+
+          by : (s : Schedule) → Sound p s → Agree p (has both) (startIn xs) (s .start) → s .start j < v + 1 → Dec (s .start j < v)
+              → step .state .limit .0 ≤ cost p s
+          by s sound agree less (yes l) = le-trans (d .later .falls) (t .tried .costs s sound (λ i h f. agree i h (left i f)) l)
+          by s sound agree less (no l) = over .closed .costs s sound (λ i h f. at i h f (ℕ-discrete i j))
+            where
+              at : (i : ℕ) → i < p .units → has b i ≡ true → Dec (i ≡ j) → s .start i ≡ startIn (set xs j v) i
+              at i h f (yes q) =
+                  let y : s .start j ≡ v = omega arith in
+                  ap (s .start) q ∙ (y ∙ (sym (put-here xs j v long) ∙ ap (startIn (set xs j v)) (sym q)))
+              at i h f (no ne) = agree i h (right i f ne) ∙ sym (put-other xs j v i ne)
+
+-- ---- all starts have failed
+
+module _ (p : Problem) (w₀ w rows xs : List ℕ) (j sum : ℕ) (st₀ st : State) (blame first last v : ℕ)
+    (range : StartRange p j first last) (o : Open p w₀ rows xs j sum st₀) (t : Trying p w₀ w xs j st₀ st blame first v) (ended : last < v) where
+  closed-all : Closed p (has blame) (startIn xs) (st .limit .0)
+  closed-all = record { costs = λ s sound agree. t .tried .costs s sound agree (late s sound) }
+    where
+      late : (s : Schedule) → Sound p s → s .start j < v
+      late s sound =
+          let e = range .exact (s .start j) in
+          let h = leb-true (s .start j) last (and-right (leb first (s .start j)) (leb (s .start j) last) (sym e
+          ∙ sound .schedule .permits j (o .unit))) in
+          omega arith
+
+  -- the dead end, before it is noted and after
+  pub done-all : (budget : ℕ) (w′ : List ℕ) (r : State)
+      → (Closed p (has blame) (startIn xs) (st .limit .0) → Later p w st w′ r) → r .limit ≡ st .limit → r .tries ≡ st .tries
+      → r .found ≡ st .found → r .best ≡ st .best
+      → Done p budget w₀ w′ xs j (placeRoom p j) st₀ (deadAt r blame)
+  done-all budget w′ r later el et ef eb = record {
+    later = later-next p w₀ w w′ st₀ st r (t .later) (later closed-all);
+    counted =
+        let m : (v - first) * tryRoom p j ≤ startCount p j * tryRoom p j = mul-le-mul-right (tryRoom p j) (t .reach) in
+        omega (arith, m, t .counted, et);
+    ends = record {
+      closed = rw el closed-all;
+      within = t .under;
+      past = λ f. rw eb (past-up (st .best) xs j v (t .past (sym ef ∙ f)));
+    };
+  }

@@ -1,0 +1,48 @@
+-- What one ask is told, and what it leaves in the table (document 01, "A run of asks").
+-- Assumes nothing.
+use Prim.Native.Nat.{ℕ, _+_, _-_, _≤_}
+use mathlib.Core.Path.{_≡_}
+use mathlib.Core.Bool.{Bool, true, false}
+use mathlib.Core.List.{List, _++_}
+use lib.ListN.{length}
+use Rattle.sums.specs.Range.{listTo}
+use Rattle.model.specs.Problem.{Problem}
+use Rattle.model.specs.Answer.{Answer, optimal, infeasible, incumbent, unknown, Correct}
+use Rattle.model.specs.Asks.{concludes}
+use Rattle.blame.specs.Closed.{startIn}
+use Rattle.nogood.specs.Stock.{Stock}
+use Rattle.bound.specs.Tests.{someStartless}
+use Rattle.state.specs.declared.State.{State}
+use Rattle.state.specs.declared.Walked.{Walked}
+use Rattle.state.specs.declared.Walked.the-variants.{Dead, Spent}
+use Rattle.search.specs.declared.Reply.{Reply}
+
+-- what the limit, the best starts, the mark, the runs, and how the walk ended say: a plan, none, a best before the mark, or a mark alone
+abbrev pub answerFor : Problem → ℕ → (best mark runs : List ℕ) → Bool → Walked → Answer
+answerFor p limit best mark runs true (Dead b) = optimal limit (listTo (p .units) (startIn best)) (listTo (p .weeks) (startIn runs))
+answerFor p limit best mark runs false (Dead b) = infeasible
+answerFor p limit best mark runs true (Spent m) =
+    incumbent limit (listTo (p .units) (startIn best)) (listTo (p .weeks) (startIn runs)) (listTo m (startIn mark))
+answerFor p limit best mark runs false (Spent m) = unknown (listTo m (startIn mark))
+
+-- what a state says
+abbrev pub answerIn : Problem → State → List ℕ → Walked → Answer
+answerIn p st runs w = answerFor p (st .limit .0) (st .best) (st .mark) runs (st .found) w
+
+-- the paper's status and values of a reply
+abbrev pub answerOf : Problem → Reply → Answer
+answerOf p r = answerIn p (r .state) (r .runs) (r .walked)
+
+-- an ask with this ceiling and budget, on a table w of true nogoods in so many words, has left the table w′ and this reply
+pub record Asked (p : Problem) (ceiling budget : ℕ) (w : List ℕ) (used : ℕ) (w′ : List ℕ) (r : Reply) : Type 0 where
+  -- the answer is right for its own ceiling and budget, for all schedules
+  pub correct : Correct p ceiling budget (answerOf p r)
+  -- the table still holds what is true; a walk that ended unspent added the nogood without choices under its last bound, and nothing else did
+  pub stock : (alone : List ℕ) → Stock p alone w used → Stock p (alone ++ concludes ceiling (answerOf p r)) w′ (r .state .used)
+  -- the words used grow to the last 32 at most, and by one at the end of the walk
+  pub room : (n : ℕ) → used ≤ n → length w - 32 ≤ n → r .state .used ≤ n + 1
+  pub long : length w′ ≡ length w
+  -- a unit without permitted starts settles the ask before a start is tried, and nobody is to blame
+  pub untried : someStartless p ≡ true → (r .walked ≡ Dead 0) × (r .state .tries ≡ 0)
+  -- the last bound fits a word
+  pub small : r .state .limit .0 ≤ 268435456

@@ -1,0 +1,159 @@
+-- The walk of one ask: what its state says of all schedules, before and after a unit is placed and a start is tried. Units count from 0, starts
+-- from 1. The limit is exclusive: a schedule is wanted when it costs less, and a plan's cost is the limit of all that come after it.
+-- Assumes nothing.
+use Prim.Native.Nat.{ℕ, suc, _+_, _-_, _*_, _≤_, _<_}
+use mathlib.Core.Path.{_≡_}
+use mathlib.Core.Bool.{true, false}
+use mathlib.Core.List.{List}
+use mathlib.Core.Logic.{_⊎_}
+use lib.ListN.{length}
+use lib.Dec.{ltb}
+use Rattle.sums.specs.NumSet.{has}
+use Rattle.model.specs.Problem.{Problem}
+use Rattle.model.specs.Domain.{permitted, startCount}
+use Rattle.model.specs.Schedule.{Schedule, Sound, cost}
+use Rattle.model.specs.Order.{Same, Lower, Earlier}
+use Rattle.model.specs.Prefix.{treeSize, passed}
+use Rattle.blame.specs.Closed.{startIn, Closed, Settled}
+use Rattle.blame.specs.Placed.{placed, planOf}
+use Rattle.nogood.specs.Stock.{Stock}
+use Rattle.bound.specs.Rows.{Rows}
+use Rattle.bound.specs.Tests.{Stands}
+use Rattle.state.specs.declared.State.{State}
+use Rattle.state.specs.declared.Walked.{Walked}
+use Rattle.state.specs.declared.Walked.the-variants.{Dead, Spent}
+use Rattle.state.specs.declared.Step.{Step}
+
+-- ---- the best so far
+
+-- the starts with each week's cheapest run are a sound schedule at this cost and at or below the ceiling, and every earlier one costs more
+pub record Leads (p : Problem) (ceiling : ℕ) (best : List ℕ) (limit : ℕ) : Type 0 where
+  pub sound : Sound p (planOf p (startIn best))
+  pub costs : cost p (planOf p (startIn best)) ≡ limit
+  pub allowed : limit ≤ ceiling
+  pub first : (q : Schedule) → Sound p q → Earlier p q (planOf p (startIn best)) → limit < cost p q
+
+-- what a state says of the best so far under a ceiling
+pub record Incumbent (p : Problem) (ceiling : ℕ) (st : State) : Type 0 where
+  pub under : st .limit .0 ≤ ceiling + 1
+  pub none : st .found ≡ false → st .limit .0 ≡ ceiling + 1
+  pub plan : st .found ≡ true → Leads p ceiling (st .best) (st .limit .0)
+
+-- ---- one state after another
+
+-- the table w holds nogoods that are true, in as many words as are used
+pub record Held (p : Problem) (w : List ℕ) (used : ℕ) : Type 0 where
+  pub alone : List ℕ
+  pub stock : Stock p alone w used
+
+-- a walk that was in a state, with the table w, has come to another, with the table w′: its limit has not risen, the best so far is still that, the
+-- table still holds what is true, no nogood without choices came to it, and the words used grow to the last 32 at most
+pub record Later (p : Problem) (w : List ℕ) (st : State) (w′ : List ℕ) (st′ : State) : Type 0 where
+  pub falls : st′ .limit .0 ≤ st .limit .0
+  pub kept : (ceiling : ℕ) → Incumbent p ceiling st → Incumbent p ceiling st′
+  pub stock : (alone : List ℕ) → Stock p alone w (st .used) → Stock p alone w′ (st′ .used)
+  pub room : (n : ℕ) → st .used ≤ n → length w - 32 ≤ n → st′ .used ≤ n
+  pub long : length w′ ≡ length w
+
+-- ---- places
+
+-- the best lies before the place of the first k starts, or begins with them
+abbrev pub UpTo : (best xs : List ℕ) (k : ℕ) → Type 0
+UpTo best xs k = Lower ltb k (startIn best) (startIn xs) ⊎ Same k (startIn best) (startIn xs)
+
+-- the best lies before the place of the first j starts and then v
+abbrev pub BeforeStart : (best xs : List ℕ) (j v : ℕ) → Type 0
+BeforeStart best xs j v = Lower ltb j (startIn best) (startIn xs) ⊎ (Same j (startIn best) (startIn xs) × (startIn best j < v))
+
+-- how many places lie at and below one start of unit j
+abbrev pub tryRoom : Problem → ℕ → ℕ
+tryRoom p j = treeSize p (p .units - suc j)
+
+-- at and below all its starts
+abbrev pub placeRoom : Problem → ℕ → ℕ
+placeRoom p j = startCount p j * treeSize p (p .units - suc j)
+
+-- ---- before and after
+
+-- before unit j is placed: the units below it stand, all schedules before this place are settled, and no more was tried than lies before it
+pub record Open (p : Problem) (w rows xs : List ℕ) (j sum : ℕ) (st : State) : Type 0 where
+  pub unit : j < p .units
+  pub long : p .units ≤ length xs
+  pub stands : Stands p (startIn xs) j sum
+  pub tallied : Rows p (placed p (startIn xs) j) rows
+  pub settled : Settled p (startIn xs) j (st .limit .0)
+  pub past : st .found ≡ true → Lower ltb j (startIn (st .best)) (startIn xs)
+  pub counted : st .tries ≤ passed p (startIn xs) j
+  pub small : st .limit .0 ≤ 268435456
+  pub held : Held p w (st .used)
+
+-- before the start of unit j in xs is tried
+pub record Untried (p : Problem) (w rows xs : List ℕ) (j sum : ℕ) (st : State) : Type 0 where
+  pub unit : j < p .units
+  pub long : p .units ≤ length xs
+  pub permits : permitted p j (startIn xs j) ≡ true
+  pub stands : Stands p (startIn xs) j sum
+  pub tallied : Rows p (placed p (startIn xs) j) rows
+  pub settled : Settled p (startIn xs) (j + 1) (st .limit .0)
+  pub past : st .found ≡ true → Lower ltb (j + 1) (startIn (st .best)) (startIn xs)
+  pub counted : st .tries < passed p (startIn xs) (j + 1)
+  pub small : st .limit .0 ≤ 268435456
+  pub held : Held p w (st .used)
+
+-- what the tests of that start ask
+pub record Ready (p : Problem) (w rows xs : List ℕ) (j sum limit used : ℕ) : Type 0 where
+  pub unit : j < p .units
+  pub permits : permitted p j (startIn xs j) ≡ true
+  pub stands : Stands p (startIn xs) j sum
+  pub tallied : Rows p (placed p (startIn xs) j) rows
+  pub small : limit ≤ 268435456
+  pub held : Held p w used
+
+-- the place of the first k starts is dead, by the starts of the units of b
+pub record Over (p : Problem) (xs : List ℕ) (k : ℕ) (st : State) (b : ℕ) : Type 0 where
+  pub closed : Closed p (has b) (startIn xs) (st .limit .0)
+  pub within : (i : ℕ) → has b i ≡ true → i < k
+  pub past : st .found ≡ true → UpTo (st .best) xs k
+
+-- the walk stopped at the mark of m starts, a place of rank at least the budget; all before it is settled
+pub record Halted (p : Problem) (budget : ℕ) (st : State) (m : ℕ) : Type 0 where
+  pub some : 1 ≤ m
+  pub within : m ≤ p .units
+  pub permits : (i : ℕ) → i < m → permitted p i (startIn (st .mark) i) ≡ true
+  pub late : budget < passed p (startIn (st .mark)) m
+  pub settled : Settled p (startIn (st .mark)) m (st .limit .0)
+  pub past : st .found ≡ true → Lower ltb m (startIn (st .best)) (startIn (st .mark))
+
+-- how it went with the place of the first k starts
+abbrev pub Ends : Problem → ℕ → List ℕ → ℕ → State → Walked → Type 0
+Ends p budget xs k st (Dead b) = Over p xs k st b
+Ends p budget xs k st (Spent m) = Halted p budget st m
+
+-- after at most `room` tries
+pub record Done (p : Problem) (budget : ℕ) (w w′ xs : List ℕ) (k room : ℕ) (st : State) (step : Step) : Type 0 where
+  pub later : Later p w st w′ (step .state)
+  pub counted : step .state .tries ≤ st .tries + room
+  pub ends : Ends p budget xs k (step .state) (step .walked)
+
+-- ---- a whole walk
+
+-- every sound schedule costs at least the limit
+pub record AllSettled (p : Problem) (limit : ℕ) : Type 0 where
+  pub costs : (s : Schedule) → Sound p s → limit ≤ cost p s
+
+-- a walk that has not begun, with its table
+pub record Fresh (p : Problem) (w : List ℕ) (st : State) : Type 0 where
+  pub nothing : st .found ≡ false
+  pub tries : st .tries ≡ 0
+  pub small : st .limit .0 ≤ 268435456
+  pub held : Held p w (st .used)
+
+-- no sound schedule at all is below the limit; or the walk stopped at its mark
+abbrev pub Closes : Problem → ℕ → State → Walked → Type 0
+Closes p budget st (Dead b) = AllSettled p (st .limit .0)
+Closes p budget st (Spent m) = Halted p budget st m
+
+-- a walk that has ended
+pub record Finished (p : Problem) (budget : ℕ) (w w′ : List ℕ) (st : State) (step : Step) : Type 0 where
+  pub later : Later p w st w′ (step .state)
+  pub closes : Closes p budget (step .state) (step .walked)

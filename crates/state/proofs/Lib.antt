@@ -1,0 +1,2 @@
+-- the table and the state after a dead end and after the end of a walk
+pub mod TableLaws

@@ -1,0 +1,28 @@
+-- `state::indexed` meets its contract: a place that leaves 16 bits is not kept.
+-- Assumes nothing.
+use borrow.Author.Tests.{le-ltb, lt-ltb}
+use Rattle.state.specs.State.{indexedAt}
+use borrow.Author.Needs.{needs}
+use borrow.Author.Needs.{needs}
+use Rattle.state.proofs.indexed.Statement.{statement}
+use Rattle.state.proofs.indexed.Tie as tie
+
+returns : tie.Need-returns
+unfolding indexedAt
+returns c = rw (le-ltb _ _ (c .if1 .taken))
+
+cast-e : tie.Need-cast-e
+cast-e c = search needs
+
+mul-e : tie.Need-mul-e
+mul-e c = search needs
+
+array-write-e : tie.Need-array-write-e
+array-write-e c = search needs
+
+returns-2 : tie.Need-returns-2
+unfolding indexedAt
+returns-2 c = rw (lt-ltb _ _ (c .if1 .left))
+
+pub indexed-spec : {M : Type 1} → statement M
+indexed-spec = tie.close (tie.spec returns cast-e mul-e array-write-e returns-2)

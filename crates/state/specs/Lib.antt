@@ -1,0 +1,2 @@
+-- small changes of a walk's state, and its beginning
+pub mod State

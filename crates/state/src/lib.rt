@@ -1,0 +1,229 @@
+// The state of a walk and its small changes: a try counted, the mark set, a better schedule found; what the walk notes in the table of conflicts and
+// what it looks up there. Units count from 0, starts from 1.
+use instance::Euro;
+use nogood::Hit;
+ghost use mathlib.Core.Path.{_≡_};
+ghost use Prim.Native.Nat.{_+_, _<_, _≤_, min};
+ghost use lib.ListN.{length};
+ghost use Rattle.nogood.specs.Recall.{Recalled};
+ghost use Rattle.state.specs.State.{triedOnce, stoppedAt, improvedBy, deadAt, withTable, indexedAt, Learnt, EndNoted, Concluded, Begun};
+
+// The walk's state: the starts of the best schedule so far, the mark of a walk that stopped, for each unit where in the table the last conflict that
+// ends at it ends, the limit that a schedule has to stay below, the words of the table in use, the tries made, and whether there is a best. The
+// fields stand in the order of their sizes: a bool before a wider field leaves 7 bytes between them, and every try copies those too, in two pieces.
+pub struct State {
+    pub best: [u8; 16],
+    pub mark: [u8; 16],
+    pub ends: [u16; 16],
+    pub limit: Euro,
+    pub used: usize,
+    pub tries: u32,
+    pub found: bool,
+}
+
+// No schedule is left with the starts of these units; or the budget is spent, at a mark of so many starts.
+pub enum Walked {
+    Dead(u32),
+    Spent(usize),
+}
+
+// A state, and how the walk came to it.
+pub struct Step {
+    pub state: State,
+    pub walked: Walked,
+}
+
+// ---- small changes
+
+// One try more.
+pub fn tried(st: State) -> State
+    requires { ⌜ st .tries < 4294967295 ⌝ }
+    ensures { λ r. ⌜ r ≡ triedOnce st ⌝ }
+{
+    let mut s = st;
+    s.tries = st.tries + 1;
+    s
+}
+
+// The budget is spent: the mark is the place of the first k starts.
+pub fn stopped(st: State, starts: [u8; 16], k: usize) -> Step
+    ensures { λ r. ⌜ r ≡ stoppedAt st starts k ⌝ }
+{
+    let mut s = st;
+    s.mark = starts;
+    Step {
+        state: s,
+        walked: Walked::Spent(k),
+    }
+}
+
+// Every unit has its start: these are the best so far.
+pub fn improved(st: State, starts: [u8; 16], cost: Euro) -> State
+    ensures { λ r. ⌜ r ≡ improvedBy st starts cost ⌝ }
+{
+    let mut s = st;
+    s.best = starts;
+    s.found = true;
+    s.limit = cost;
+    s
+}
+
+// Another number of words is used, and conflicts end at other places.
+fn with_table(st: State, ends: [u16; 16], used: usize) -> State
+    ensures { λ r. ⌜ r ≡ withTable st ends used ⌝ }
+{
+    let mut s = st;
+    s.ends = ends;
+    s.used = used;
+    s
+}
+
+// A dead end.
+pub fn dead(st: State, b: u32) -> Step
+    ensures { λ r. ⌜ r ≡ deadAt st b ⌝ }
+{
+    Step {
+        state: st,
+        walked: Walked::Dead(b),
+    }
+}
+
+// ---- the table of conflicts
+
+// In how many words of the table a try looks for conflicts.
+const WINDOW: usize = 64;
+
+// The smaller of two places.
+fn smaller(a: usize, b: usize) -> usize
+    ensures { λ r. ⌜ r ≡ min a b ⌝ }
+{
+    if a < b {
+        return a;
+    }
+    b
+}
+
+// The last unit of a set, 0 where it has none.
+fn last_unit(b: u32) -> usize
+    ensures { λ r. ⌜ r < 16 ⌝ }
+{
+    let mut i = 15;
+    while 0 < i {
+        if sets::has(b, i) {
+            return i;
+        }
+        i -= 1;
+    }
+    0
+}
+
+// The places where conflicts end, with one more that ends at unit i. They decide which conflicts are looked at, and nothing rests on them.
+fn indexed(ends: [u16; 16], i: usize, end: usize) -> [u16; 16]
+    requires { ⌜ i < 16 ⌝ }
+    ensures { λ r. ⌜ r ≡ indexedAt ends i end ⌝ }
+{
+    if 65536 <= end {
+        return ends;
+    }
+    let mut e = ends;
+    e[i] = end as u16;
+    e
+}
+
+// The same with the word before place `end`, where that is a choice.
+fn indexed_word(ends: [u16; 16], word: u32, end: usize) -> [u16; 16]
+    ensures { λ r. ⌜ length r ≡ 16 ⌝ }
+{
+    if instance::kind_of(word) != 14 {
+        return ends;
+    }
+    let unit = instance::value_of(word) / 64;
+    if unit == 0 {
+        return ends;
+    }
+    if 16 < unit {
+        return ends;
+    }
+    indexed(ends, unit - 1, end)
+}
+
+// For each unit, the place after the last choice of it in the table: there the last conflict that ends at it ends, or a later one goes on.
+fn index(table: &[u32], used: usize) -> [u16; 16]
+    requires { ⌜ used ≤ length (now table) ⌝ }
+    ensures { λ r. ⌜ length r ≡ 16 ⌝ }
+{
+    let mut ends: [u16; 16] = [0; 16];
+    for i in 0..used {
+        let next = indexed_word(ends, table[i], i + 1);
+        ends = next;
+    }
+    ends
+}
+
+// A conflict that begins in the words before the place where the last one ends that ends at unit j, of which the starts have all choices, and whose
+// bound is at or above the walk's own.
+pub fn recalled(table: &[u32], ends: [u16; 16], limit: Euro, starts: [u8; 16], j: usize) -> Hit
+    requires { ⌜ j < 16 ⌝ }
+    ensures { λ r. ⌜ Recalled (now (table .entry)) starts (j + 1) (limit .0) r ⌝ }
+{
+    let to = smaller(ends[j] as usize, table.len());
+    nogood::recall(table, to - smaller(to, WINDOW), to, starts, j + 1, limit.0)
+}
+
+// Notes that the starts of the units of b, all below k, are a dead end below the state's limit, where there is space.
+pub fn learnt(table: &mut [u32], st: State, starts: [u8; 16], k: usize, b: u32) -> State
+    requires { ⌜ (st .used ≤ length (now table)) × (k ≤ 16) × (st .limit .0 ≤ 268435456) ⌝ }
+    ensures { λ r. ⌜ Learnt (now (table .entry)) (now (table .exit)) st r starts k b ⌝ }
+{
+    let limit = st.limit;
+    let used = st.used;
+    let ends = st.ends;
+    let more = nogood::note(table, used, starts, k, b, limit.0);
+    if more == used {
+        return st;
+    }
+    let next = indexed(ends, last_unit(b), more);
+    with_table(st, next, more)
+}
+
+// Notes the conflict without choices under the state's last bound.
+fn end_noted(table: &mut [u32], st: State) -> State
+    requires { ⌜ (st .used < length (now table)) × (st .limit .0 ≤ 268435456) ⌝ }
+    ensures { λ r. ⌜ EndNoted (now (table .entry)) (now (table .exit)) st r ⌝ }
+{
+    let limit = st.limit;
+    let used = st.used;
+    let ends = st.ends;
+    let more = nogood::conclude(table, used, limit.0);
+    with_table(st, ends, more)
+}
+
+// The same where a walk has ended unspent.
+pub fn concluded(table: &mut [u32], st: State, w: Walked) -> State
+    requires { ⌜ (st .used < length (now table)) × (st .limit .0 ≤ 268435456) ⌝ }
+    ensures { λ r. ⌜ Concluded (now (table .entry)) (now (table .exit)) st r w ⌝ }
+{
+    match w {
+        Walked::Spent(_) => st,
+        Walked::Dead(_) => end_noted(table, st),
+    }
+}
+
+// ---- the beginning
+
+// A walk that has not begun.
+pub fn fresh(ceiling: u32, table: &[u32], used: usize) -> State
+    requires { ⌜ (ceiling < 268435456) × (used ≤ length (now table)) ⌝ }
+    ensures { λ r. ⌜ Begun ceiling used r ⌝ }
+{
+    let ends = index(table, used);
+    State {
+        best: [0; 16],
+        mark: [0; 16],
+        ends,
+        found: false,
+        limit: Euro(ceiling as u64 + 1),
+        tries: 0,
+        used,
+    }
+}

@@ -1,0 +1,148 @@
+//! Files to ask about, the ceilings and budgets that tell something on them, and words to lend that
+//! are as misleading as can be.
+
+use crate::plans::{tied_plan, tiny_plan};
+use crate::queries::{all_queries, dirty_scratch};
+use crate::schedules::fitted;
+use crate::{Buffers, Random};
+use reference::{block_len, permitted_starts, word, Plan, Survey};
+
+/// The largest ceiling and the largest budget.
+pub const MOST: u32 = (1 << 28) - 1;
+
+/// A plan of the given size to ask about. Three in four are made to fit a schedule; then some get
+/// short overhauls in wide windows, and some a peculiarity.
+pub fn asked_plan(random: &mut Random, weeks: u32, units: u32) -> Plan {
+    let mut plan = if random.once_in(2) {
+        tiny_plan(random, weeks, units)
+    } else {
+        tied_plan(random, weeks, units)
+    };
+    if !random.once_in(4) {
+        plan = fitted(plan, random).plan;
+    }
+    if random.once_in(2) {
+        // a schedule that was sound still is
+        widen(&mut plan, random);
+    }
+    make_peculiar(&mut plan, random);
+    plan
+}
+
+/// Overhauls of one week or two, and windows that are open at one end or both.
+fn widen(plan: &mut Plan, random: &mut Random) {
+    for unit in 0..plan.units as usize {
+        plan.duration[unit] = plan.duration[unit].min(random.within(1, 2));
+        if !random.once_in(4) {
+            plan.earliest[unit] = 1;
+        }
+        if !random.once_in(4) {
+            plan.latest[unit] = plan.weeks;
+        }
+    }
+}
+
+/// Costs that are all 0 or nearly so, a unit that gives nothing, one without a permitted start, or
+/// a week whose demand nobody meets; half the plans stay as they are.
+fn make_peculiar(plan: &mut Plan, random: &mut Random) {
+    let unit = random.place(plan.units as usize);
+    let week = random.place(plan.weeks as usize);
+    let top = random.within(0, 1);
+    match random.within(0, 11) {
+        0 | 1 => {
+            for row in plan.maint.iter_mut().chain(&mut plan.running) {
+                row.fill_with(|| random.within(0, top));
+            }
+        }
+        2 => plan.maint.iter_mut().for_each(|row| row.fill(top)),
+        3 => plan.capacity[unit] = 0,
+        4 => leave_no_start(plan, unit + 1),
+        5 => plan.demand[week] = 16_000_000,
+        _ => {}
+    }
+}
+
+/// Takes the permitted starts of a unit, where there is more than a week: it may start no earlier
+/// than in the last week, and is out for two.
+pub fn leave_no_start(plan: &mut Plan, unit: usize) {
+    let weeks = plan.weeks;
+    plan.duration[unit - 1] = weeks.min(2);
+    (plan.earliest[unit - 1], plan.latest[unit - 1]) = (weeks, weeks);
+}
+
+/// 0, the cost of the cheapest schedule and one euro around it, the largest that there is, and the
+/// cost of some schedule; rising.
+pub fn telling_ceilings(survey: &Survey, random: &mut Random) -> Vec<u32> {
+    let mut ceilings = vec![0, MOST];
+    match survey.cheapest(MOST) {
+        None => ceilings.push(random.within(1, 1_000_000)),
+        Some(cheapest) => {
+            let least = cheapest.cost as u32;
+            ceilings.extend([least.saturating_sub(1), least, least + 1]);
+            let some = &survey.sound()[random.place(survey.sound().len())];
+            ceilings.push(some.cost as u32);
+        }
+    }
+    ceilings.sort_unstable();
+    ceilings.dedup();
+    ceilings
+}
+
+/// Every budget up to one more than the number of places where they are few; else the first three,
+/// those around their number and around its half, and some.
+pub fn telling_budgets(survey: &Survey, random: &mut Random) -> Vec<u32> {
+    let places = survey.places().len() as u32;
+    let mut budgets: Vec<u32> = if places <= 40 {
+        (1..=places + 1).collect()
+    } else {
+        let some = [0; 3].map(|_| random.within(1, places));
+        let around = [1, 2, 3, places / 2, places - 1, places, places + 1];
+        [&around[..], &some].concat()
+    };
+    budgets.push(MOST);
+    budgets.sort_unstable();
+    budgets.dedup();
+    budgets
+}
+
+/// Words for an ask on the plan, in numbers that are enough and with dirt in them: some beyond the
+/// block, a table of `table` words, scratch of just enough or a few more.
+pub fn dirty_buffers(plan: &Plan, table: usize, random: &mut Random) -> Buffers {
+    let answer = block_len(plan) + random.place(4);
+    let scratch = 2usize.pow(plan.units) + random.place(3) * random.place(10);
+    let queries = all_queries(plan);
+    let mut scratches = dirty_scratch(&queries, scratch, random);
+    Buffers {
+        answer: random.words(answer),
+        table: dirty_table(plan, table, random),
+        scratch: scratches.swap_remove(random.place(scratches.len())),
+    }
+}
+
+/// A table that is cleared or filled, has any words, or has conflicts all over that are laid out as
+/// they should be but not true: that nothing costs less than the bound, or nothing with a choice.
+pub fn dirty_table(plan: &Plan, length: usize, random: &mut Random) -> Vec<u32> {
+    let bound = word(13, random.edgy(0, MOST));
+    match random.within(0, 4) {
+        0 => vec![0; length],
+        1 => vec![u32::MAX; length],
+        2 => random.words(length),
+        3 => vec![bound; length],
+        _ => {
+            let choice = |place: usize| match place % 2 {
+                0 => None,
+                _ => random_choice(plan, random),
+            };
+            let words = (0..length).map(choice);
+            words.map(|choice| choice.unwrap_or(bound)).collect()
+        }
+    }
+}
+
+/// The word for a unit and a permitted start of it, where it has any.
+fn random_choice(plan: &Plan, random: &mut Random) -> Option<u32> {
+    let unit = random.within(1, plan.units);
+    let starts = permitted_starts(plan, unit as usize);
+    let start = starts.get(random.place(starts.len().max(1)));
+    start.map(|start| word(14, unit * 64 + start))
+}

@@ -1,0 +1,562 @@
+//! Asks: the proved answer against all schedules and places of small files, with telling ceilings
+//! and budgets, lent words of many lengths and with dirt in them; every refusal, and damaged files.
+
+use agree::{
+    asked_plan, dirty_buffers, dirty_table, edited, leave_no_start, proved_ask, replacements,
+    small_plans, smallest, staggered, telling_budgets, telling_ceilings, together, Answers,
+    AskAnswer, AskedFile, Buffers, Random, MOST,
+};
+use reference::{block_len, encode, example_a, example_a_words, word, Ask, Plan, Refusal, Status};
+
+/// Numbers of table words: the fewest, one more, some, the most.
+const TABLES: [usize; 4] = [64, 65, 200, 16_384];
+
+fn ask(ceiling: u32, budget: u32) -> Ask {
+    Ask { ceiling, budget }
+}
+
+/// Words of the given numbers to lend, all alike.
+fn alike(answer: usize, table: usize, scratch: usize) -> Buffers {
+    Buffers {
+        answer: vec![9; answer],
+        table: vec![9; table],
+        scratch: vec![9; scratch],
+    }
+}
+
+/// One of the list.
+fn one_of(list: &[usize], random: &mut Random) -> usize {
+    list[random.place(list.len())]
+}
+
+/// The answer to an ask in dirty words, with a table of one of the given lengths.
+fn answer(
+    answers: &mut Answers,
+    file: &mut AskedFile,
+    ask: Ask,
+    tables: &[usize],
+    random: &mut Random,
+    seed: u64,
+) -> Status {
+    let table = one_of(tables, random);
+    let mut lent = dirty_buffers(file.survey().plan(), table, random);
+    let origin = format_args!("table {table}, seed {seed}");
+    let answer = answers.agreed(file, ask, &mut lent, origin);
+    answer.expect("the file is accepted, and the words are enough")
+}
+
+/// Every telling ceiling with every telling budget, on a random plan for each seed; a failure
+/// prints the seed.
+fn sweep_seeds(seeds: u64, plan: impl Fn(u64, &mut Random) -> Plan) -> Answers {
+    let mut answers = Answers::default();
+    for seed in 0..seeds {
+        let mut random = Random::seeded(seed);
+        let mut file = AskedFile::new(encode(&plan(seed, &mut random)));
+        for ceiling in telling_ceilings(file.survey(), &mut random) {
+            for budget in telling_budgets(file.survey(), &mut random) {
+                let ask = ask(ceiling, budget);
+                answer(&mut answers, &mut file, ask, &TABLES, &mut random, seed);
+            }
+        }
+    }
+    answers
+}
+
+/// Sizes with few places, all in turn: units, then weeks.
+fn tiny_size(seed: u64) -> (u32, u32) {
+    let sizes = [
+        (1, 1),
+        (1, 6),
+        (2, 2),
+        (2, 3),
+        (2, 5),
+        (3, 1),
+        (3, 2),
+        (4, 2),
+        (5, 1),
+        (3, 3),
+    ];
+    sizes[seed as usize % sizes.len()]
+}
+
+/// The block of the answer to an ask on a plan that has tries for every place.
+fn block_of(plan: &Plan, ceiling: u32) -> Vec<u32> {
+    let (mut answers, mut file) = (Answers::default(), AskedFile::new(encode(plan)));
+    let mut lent = alike(block_len(plan), 64, 2usize.pow(plan.units));
+    let budget = file.survey().places().len().max(1) as u32;
+    let origin = format_args!("a worked figure");
+    let answer = answers.agreed(&mut file, ask(ceiling, budget), &mut lent, origin);
+    assert!(answer.is_ok());
+    lent.answer
+}
+
+#[test]
+fn the_worked_figures_hold() {
+    // P1, P2 and, with 12 tries for its places, P11
+    assert_eq!(block_of(&example_a(), 100), [1, 19, 2, 1, 1, 2, 1, 0, 0]);
+    assert_eq!(block_of(&example_a(), 19), [1, 19, 2, 1, 1, 2, 1, 0, 0]);
+    assert_eq!(block_of(&example_a(), 18), [2, 0, 0, 0, 0, 0, 0, 0, 0]);
+    // P5 and P6
+    let mut one_unit = smallest(1, 1);
+    one_unit.maint = vec![vec![7]];
+    assert_eq!(block_of(&one_unit, MOST), [1, 7, 1, 0, 0]);
+    assert_eq!(block_of(&one_unit, 7), [1, 7, 1, 0, 0]);
+    assert_eq!(block_of(&one_unit, 6), [2, 0, 0, 0, 0]);
+    one_unit.demand = vec![1];
+    assert_eq!(block_of(&one_unit, MOST), [2, 0, 0, 0, 0]);
+    // P7: of the starts 1 and 2 the second, as week 1 is dearer than week 4
+    let plan = Plan {
+        latest: vec![4],
+        duration: vec![3],
+        maint: vec![vec![9], vec![5], vec![5], vec![1]],
+        ..smallest(4, 1)
+    };
+    assert_eq!(block_of(&plan, MOST), [1, 11, 2, 0, 0, 0, 0, 0]);
+    // P8
+    assert_eq!(block_of(&smallest(1, 2), MOST), [2, 0, 0, 0, 0, 0, 0]);
+}
+
+/// Of file A every ceiling up to above its dearest schedule and every budget up to above its number
+/// of places, with each length of table.
+#[test]
+fn every_ceiling_and_budget_of_file_a_agrees() {
+    let mut answers = Answers::default();
+    let mut random = Random::seeded(0);
+    let mut file = AskedFile::new(example_a_words());
+    for ceiling in (0..=25).chain([MOST]) {
+        for budget in (1..=14).chain([MOST]) {
+            for table in TABLES {
+                let ask = ask(ceiling, budget);
+                let status = answer(&mut answers, &mut file, ask, &[table], &mut random, 0);
+                let unspent = if ceiling < 19 {
+                    Status::None
+                } else {
+                    Status::Plan
+                };
+                assert!(status == unspent || budget < 12);
+            }
+        }
+    }
+    answers.report("every ceiling and budget of file A");
+    assert!(answers.got(Status::Plan) > 50 && answers.got(Status::None) > 200);
+    assert!(answers.got(Status::Best) > 50 && answers.got(Status::Spent) > 50);
+}
+
+#[test]
+fn every_budget_of_tiny_files_agrees() {
+    let answers = sweep_seeds(500, |seed, random| {
+        let (units, weeks) = tiny_size(seed);
+        asked_plan(random, weeks, units)
+    });
+    answers.report("every budget of tiny files");
+    assert!(answers.got(Status::Plan) > 500 && answers.got(Status::None) > 500);
+    assert!(answers.got(Status::Best) > 10 && answers.got(Status::Spent) > 10);
+    assert!(answers.free() > 50 && answers.noted() > 100);
+}
+
+#[test]
+fn some_budgets_of_small_files_agree() {
+    let answers = sweep_seeds(90, |seed, random| {
+        let (units, weeks) = (seed as u32 % 5 + 1, seed as u32 / 5 % 6 + 1);
+        asked_plan(random, weeks, units)
+    });
+    answers.report("some budgets of small files");
+    assert!(answers.got(Status::Plan) > 200 && answers.got(Status::None) > 200);
+    assert!(answers.got(Status::Best) > 10 && answers.got(Status::Spent) > 10);
+    assert!(answers.noted() > 500);
+}
+
+/// Many places and few asks on each file, also with the longest table.
+#[test]
+fn some_asks_on_files_with_many_places_agree() {
+    let mut answers = Answers::default();
+    for seed in 0..60 {
+        let mut random = Random::seeded(seed);
+        let mut plan = asked_plan(&mut random, 4 + seed as u32 % 3, 4 + seed as u32 / 3 % 2);
+        plan.earliest.fill(1);
+        let mut file = AskedFile::new(encode(&plan));
+        let ceilings = telling_ceilings(file.survey(), &mut random);
+        let budgets = telling_budgets(file.survey(), &mut random);
+        for _ in 0..6 {
+            let ceiling = ceilings[random.place(ceilings.len())];
+            let budget = budgets[random.place(budgets.len())];
+            let ask = ask(ceiling, budget);
+            answer(&mut answers, &mut file, ask, &TABLES, &mut random, seed);
+        }
+    }
+    answers.report("some asks on files with many places");
+    assert!(answers.got(Status::Plan) > 20 && answers.got(Status::None) > 20);
+    assert!(answers.got(Status::Best) + answers.got(Status::Spent) > 20);
+    assert!(answers.noted() > 500);
+}
+
+/// Every figure 0 or 1, so that most schedules cost the same; every ceiling up to the dearest.
+#[test]
+fn of_many_schedules_of_equal_cost_the_earliest_is_given() {
+    let mut answers = Answers::default();
+    let mut tied = 0;
+    for seed in 0..150 {
+        let mut random = Random::seeded(seed);
+        let (units, weeks) = (seed as u32 % 4 + 1, seed as u32 / 4 % 4 + 1);
+        let mut plan = asked_plan(&mut random, weeks, units);
+        plan.duration.fill(1);
+        plan.earliest.fill(1);
+        plan.capacity.fill_with(|| random.within(0, 1));
+        plan.demand.fill_with(|| random.within(0, 1));
+        let top = random.within(0, 1);
+        for row in plan.maint.iter_mut().chain(&mut plan.running) {
+            row.fill_with(|| random.within(0, top));
+        }
+        let mut file = AskedFile::new(encode(&plan));
+        let costs = file.survey().sound().iter().map(|sound| sound.cost);
+        let (least, most) = (costs.clone().min(), costs.clone().max().unwrap_or(0));
+        tied += usize::from(costs.filter(|&cost| Some(cost) == least).count() > 1);
+        for ceiling in 0..=most as u32 + 1 {
+            for budget in [1, 2, 7, MOST] {
+                let ask = ask(ceiling, budget);
+                answer(&mut answers, &mut file, ask, &TABLES, &mut random, seed);
+            }
+        }
+    }
+    answers.report("many schedules of equal cost");
+    assert!(tied > 50 && answers.free() > 50 && answers.got(Status::Plan) > 200);
+    assert!(answers.got(Status::Best) > 50 && answers.got(Status::Spent) > 50);
+}
+
+/// The first unit, one in the middle or the last: settled before a start is tried, so never spent.
+#[test]
+fn files_with_a_unit_without_a_start_have_no_plan() {
+    for unit in 1..=4 {
+        let answers = sweep_seeds(40, |_, random| {
+            let weeks = random.within(2, 4);
+            let mut plan = asked_plan(random, weeks, 4);
+            leave_no_start(&mut plan, unit);
+            plan
+        });
+        answers.report(&format!("unit {unit} without a start"));
+        assert_eq!(answers.got(Status::Plan) + answers.got(Status::Best), 0);
+        assert!(answers.got(Status::None) > 40);
+        assert_eq!(answers.got(Status::Spent), 0);
+    }
+}
+
+/// A kilogram more than all units give together in one week.
+#[test]
+fn files_with_a_demand_that_nobody_meets_have_no_plan() {
+    let answers = sweep_seeds(60, |seed, random| {
+        let (units, weeks) = tiny_size(seed);
+        let mut plan = asked_plan(random, weeks, units);
+        let week = random.place(weeks as usize);
+        plan.demand[week] = plan.capacity.iter().sum::<u32>() + 1;
+        plan
+    });
+    answers.report("a demand that nobody meets");
+    assert_eq!(answers.got(Status::Plan) + answers.got(Status::Best), 0);
+    assert!(answers.got(Status::None) > 60);
+}
+
+/// The same ask with other words in the table at entry gives the same block and the same table.
+#[test]
+fn the_words_in_the_table_at_entry_have_no_influence() {
+    for seed in 0..200 {
+        let mut random = Random::seeded(seed);
+        let (units, weeks) = tiny_size(seed);
+        let mut file = AskedFile::new(encode(&asked_plan(&mut random, weeks, units)));
+        let ceilings = telling_ceilings(file.survey(), &mut random);
+        let ask = ask(ceilings[random.place(ceilings.len())], random.within(1, 30));
+        let table = one_of(&TABLES, &mut random);
+        let lent = dirty_buffers(file.survey().plan(), table, &mut random);
+        let mut first = lent.clone();
+        let origin = format_args!("seed {seed}");
+        let _ = Answers::default().agreed(&mut file, ask, &mut first, origin);
+        for _ in 0..10 {
+            let mut again = lent.clone();
+            again.table = dirty_table(file.survey().plan(), table, &mut random);
+            assert_eq!(proved_ask(file.words(), ask, &mut again), Ok(()));
+            assert_eq!(again.answer, first.answer, "{ask:?}, {origin}");
+            assert_eq!(again.table, first.table, "{ask:?}, {origin}");
+        }
+    }
+}
+
+/// The words that one ask left are lent to the next, with another ceiling and budget and on another
+/// file of the same size, whose conflicts and cheapest runs are others.
+#[test]
+fn what_an_ask_on_another_file_left_in_the_lent_words_changes_no_answer() {
+    let mut answers = Answers::default();
+    for seed in 0..100 {
+        let mut random = Random::seeded(seed);
+        let (units, weeks) = tiny_size(seed);
+        let plans = [0; 2].map(|_| asked_plan(&mut random, weeks, units));
+        let mut files = plans.map(|plan| AskedFile::new(encode(&plan)));
+        let table = one_of(&TABLES, &mut random);
+        let mut lent = dirty_buffers(files[0].survey().plan(), table, &mut random);
+        for _ in 0..10 {
+            for file in &mut files {
+                let ceilings = telling_ceilings(file.survey(), &mut random);
+                let ceiling = ceilings[random.place(ceilings.len())];
+                let budget = random.within(1, file.survey().places().len() as u32 + 1);
+                let origin = format_args!("table {table}, seed {seed}");
+                let answer = answers.agreed(file, ask(ceiling, budget), &mut lent, origin);
+                assert!(answer.is_ok());
+            }
+        }
+    }
+    answers.report("words that another ask left");
+    assert!(answers.got(Status::Plan) > 100 && answers.got(Status::None) > 100);
+    assert!(answers.got(Status::Best) > 50 && answers.got(Status::Spent) > 50);
+}
+
+/// One permitted start for most units and up to three for every third, so that there are few places
+/// though there are many units.
+fn leave_few_starts(plan: &mut Plan, random: &mut Random) {
+    for unit in 0..plan.units as usize {
+        let last = plan.weeks + 1 - plan.duration[unit];
+        let start = random.within(1, last);
+        let more = if unit % 3 == 2 { 2 } else { 0 };
+        plan.earliest[unit] = start;
+        plan.latest[unit] = last.min(start + more);
+    }
+}
+
+/// Dead ends with more than eight units to blame, and a short table that fills.
+#[test]
+fn some_asks_on_files_with_many_units_agree() {
+    let mut answers = Answers::default();
+    let mut full = 0;
+    for seed in 0..60 {
+        let mut random = Random::seeded(seed);
+        let units = random.within(10, 12);
+        let mut plan = asked_plan(&mut random, 8, units);
+        plan.crews = random.within(4, 12);
+        plan.demand
+            .fill(random.within(0, plan.capacity.iter().sum::<u32>() / 2));
+        plan.pairs.truncate(2);
+        plan.duration.fill_with(|| random.within(1, 2));
+        leave_few_starts(&mut plan, &mut random);
+        let mut file = AskedFile::new(encode(&plan));
+        for ceiling in telling_ceilings(file.survey(), &mut random) {
+            let budgets = telling_budgets(file.survey(), &mut random);
+            let budget = budgets[random.place(budgets.len())];
+            let mut lent = dirty_buffers(file.survey().plan(), 64, &mut random);
+            let origin = format_args!("seed {seed}");
+            let answer = answers.agreed(&mut file, ask(ceiling, budget), &mut lent, origin);
+            assert!(answer.is_ok());
+            // fewer words are left below the last 32 than a conflict of eight choices takes
+            full += usize::from(lent.table[64 - 32 - 9] != 0);
+        }
+    }
+    answers.report("files with many units");
+    println!("{full} tables were full");
+    assert!(answers.got(Status::Plan) > 20 && answers.got(Status::None) > 20 && full > 20);
+}
+
+/// 16 units and one permitted start for each, so that there are 16 places, whatever the schedule.
+#[test]
+fn the_largest_files_with_one_start_for_each_unit_agree() {
+    let mut answers = Answers::default();
+    for mut scheduled in [staggered(), together()] {
+        scheduled.plan.earliest = scheduled.starts.clone();
+        scheduled.plan.latest = scheduled.starts.clone();
+        let plan = scheduled.plan;
+        let mut file = AskedFile::new(encode(&plan));
+        assert_eq!(file.survey().places().len(), 16);
+        let cheapest = file.survey().cheapest(MOST).expect("it was made to fit");
+        let cost = cheapest.cost as u32;
+        for ceiling in [0, cost - 1, cost, MOST] {
+            for budget in [1, 2, 15, 16, 17, MOST] {
+                let mut lent = alike(block_len(&plan) + 1, 16_384, 65_536);
+                let ask = ask(ceiling, budget);
+                let answer = answers.agreed(&mut file, ask, &mut lent, format_args!("16 units"));
+                assert!(answer.is_ok());
+            }
+        }
+    }
+    answers.report("the largest files with one start for each unit");
+    assert!(answers.got(Status::Plan) >= 12 && answers.got(Status::None) >= 12);
+}
+
+/// Every combination of a good or bad file, ceiling, budget, table, answer and scratch: the refusal
+/// is that of the first in the list.
+#[test]
+fn every_refusal_comes_in_its_order() {
+    let mut answers = Answers::default();
+    let (mut answered, mut calls) = (0, 0);
+    let words = example_a_words();
+    let files = [
+        words.clone(),
+        words[..7].to_vec(),
+        [&words[..], &[7]].concat(),
+    ];
+    for mut file in files.map(AskedFile::new) {
+        for ceiling in [0, 100, MOST, MOST + 1, 1 << 31, u32::MAX] {
+            for budget in [0, 1, MOST, MOST + 1, 12 << 28 | 1, u32::MAX] {
+                for table in [0, 63, 64, 65, 16_384, 16_385] {
+                    for (answer, scratch) in pairs_of(&[0, 8, 9, 10], &[0, 3, 4, 5]) {
+                        let mut lent = alike(answer, table, scratch);
+                        let ask = ask(ceiling, budget);
+                        let origin = format_args!("{answer}, {table}, {scratch} lent");
+                        let said = answers.agreed(&mut file, ask, &mut lent, origin);
+                        answered += usize::from(said.is_ok());
+                        calls += 1;
+                    }
+                }
+            }
+        }
+    }
+    assert_eq!(calls, 3 * 6 * 6 * 6 * 16);
+    assert_eq!(answered, 3 * 2 * 3 * 4);
+    answers.report("every refusal");
+    assert_eq!(answers.refusals(), [1, 7, 9, 10, 13, 14, 15]);
+}
+
+/// Each of the first with each of the second.
+fn pairs_of(first: &[usize], second: &[usize]) -> Vec<(usize, usize)> {
+    let with = |&a: &usize| second.iter().map(move |&b| (a, b));
+    first.iter().flat_map(with).collect()
+}
+
+/// Each cause alone, with its place.
+#[test]
+fn every_cause_alone_is_refused_with_its_number_and_place() {
+    let said = |words: &[u32], ask, (answer, table, scratch)| -> AskAnswer {
+        let (mut answers, mut file) = (Answers::default(), AskedFile::new(words.to_vec()));
+        let mut lent = alike(answer, table, scratch);
+        answers.agreed(&mut file, ask, &mut lent, format_args!("one cause"))
+    };
+    let refused = |number, place| Err(Refusal { number, place });
+    let (words, enough) = (example_a_words(), (9, 64, 4));
+    assert_eq!(said(&words, ask(100, 12), enough), Ok(Status::Plan));
+    assert_eq!(said(&words[..20], ask(100, 12), enough), refused(1, 20));
+    let longer = [&words[..], &[word(11, 100)]].concat();
+    assert_eq!(said(&longer, ask(100, 12), enough), refused(7, 25));
+    for above in [1 << 28, 11 << 28 | 100, u32::MAX] {
+        assert_eq!(said(&words, ask(above, 12), enough), refused(9, 0));
+        assert_eq!(said(&words, ask(100, above), enough), refused(9, 1));
+    }
+    assert_eq!(said(&words, ask(100, 0), enough), refused(10, 1));
+    for table in [0, 1, 63, 16_385, 65_536] {
+        assert_eq!(said(&words, ask(100, 12), (9, table, 4)), refused(13, 0));
+    }
+    for answer in 0..9 {
+        assert_eq!(said(&words, ask(100, 12), (answer, 64, 4)), refused(14, 0));
+    }
+    for scratch in 0..4 {
+        assert_eq!(said(&words, ask(100, 12), (9, 64, scratch)), refused(15, 0));
+    }
+}
+
+/// Answers and scratch of just enough words, one fewer and one more, for every number of units.
+#[test]
+fn lent_words_just_enough_or_one_fewer_are_told_apart() {
+    for units in 1..=16 {
+        let plan = Plan {
+            crews: 16,
+            ..smallest(2, units)
+        };
+        let mut file = AskedFile::new(encode(&plan));
+        let mut answers = Answers::default();
+        let (block, sets) = (block_len(&plan), 2usize.pow(units));
+        for (answer, scratch) in pairs_of(
+            &[block - 1, block, block + 1],
+            &[sets - 1, sets, sets + 1, 65_537],
+        ) {
+            let mut lent = alike(answer, 64, scratch);
+            let origin = format_args!("{units} units, {answer} and {scratch} lent");
+            let said = answers.agreed(&mut file, ask(0, 17), &mut lent, origin);
+            let number = said.map_err(|refusal| refusal.number);
+            let expected = match (answer < block, scratch < sets) {
+                (true, _) => Err(14),
+                (_, true) => Err(15),
+                _ => Ok(Status::Plan),
+            };
+            assert_eq!(number, expected);
+        }
+        assert_eq!(answers.free(), 6);
+    }
+}
+
+#[test]
+fn every_single_word_damage_of_small_files_agrees() {
+    let mut answers = Answers::default();
+    for plan in small_plans().iter().filter(|plan| plan.units <= 4) {
+        let words = encode(plan);
+        let mut random = Random::seeded(words.len() as u64);
+        for place in 0..words.len() {
+            for new in replacements(&words, place, plan) {
+                let mut damaged = words.clone();
+                damaged[place] = new;
+                let mut file = AskedFile::new(damaged);
+                let mut lent = alike(block_len(plan) + 2, 64, 16);
+                let ask = ask(random.edgy(0, MOST), random.within(1, 20));
+                let origin = format_args!("word {place} replaced by {new:#x}");
+                let _ = answers.agreed(&mut file, ask, &mut lent, origin);
+            }
+        }
+    }
+    answers.report("single word of the file damaged");
+    assert_eq!(answers.refusals(), [1, 2, 3, 4, 6]);
+    assert!(answers.got(Status::Plan) > 100 && answers.got(Status::None) > 100);
+}
+
+#[test]
+fn files_cut_short_or_too_long_are_refused() {
+    let refused = |number, place| Err(Refusal { number, place });
+    for plan in small_plans() {
+        let words = encode(&plan);
+        let said = |words: &[u32]| {
+            let (mut answers, mut file) = (Answers::default(), AskedFile::new(words.to_vec()));
+            // nothing else is in order either, and the file comes first
+            let mut lent = alike(1, 1, 1);
+            answers.agreed(&mut file, ask(MOST + 1, 0), &mut lent, format_args!("cut"))
+        };
+        for length in 0..words.len() {
+            assert_eq!(said(&words[..length]), refused(1, length));
+        }
+        let longer = [&words[..], &[word(15, words.len() as u32)]].concat();
+        assert_eq!(said(&longer), refused(7, words.len()));
+    }
+}
+
+#[test]
+fn files_with_several_words_edited_agree() {
+    let mut answers = Answers::default();
+    for seed in 0..4000 {
+        let mut random = Random::seeded(seed);
+        let plan = asked_plan(&mut random, 3, 2);
+        let words = edited(&encode(&plan), &plan, &mut random);
+        let mut file = AskedFile::new(words);
+        let mut lent = dirty_buffers(&plan, one_of(&TABLES, &mut random), &mut random);
+        let asked = ask(random.edgy(0, MOST), random.edgy(0, 40));
+        let _ = answers.agreed(&mut file, asked, &mut lent, format_args!("seed {seed}"));
+    }
+    answers.report("several words of the file edited");
+    assert_eq!(answers.refusals(), [1, 2, 3, 4, 6, 7, 10]);
+    assert!(answers.got(Status::Plan) > 10 && answers.got(Status::None) > 10);
+}
+
+/// Numbers of lent words around those that are just enough, with any content.
+#[test]
+fn any_numbers_of_lent_words_agree() {
+    let mut answers = Answers::default();
+    for seed in 0..500 {
+        let mut random = Random::seeded(seed);
+        let (units, weeks) = tiny_size(seed);
+        let plan = asked_plan(&mut random, weeks, units);
+        let mut around = |enough: usize| {
+            let length = enough - 2 + random.place(5);
+            random.words(length)
+        };
+        let mut lent = Buffers {
+            answer: around(block_len(&plan)),
+            table: around([64, 66, 16_384][seed as usize % 3]),
+            scratch: around(2usize.pow(units)),
+        };
+        let asked = ask(random.edgy(0, MOST + 1), random.within(0, 30));
+        let mut file = AskedFile::new(encode(&plan));
+        let _ = answers.agreed(&mut file, asked, &mut lent, format_args!("seed {seed}"));
+    }
+    answers.report("any numbers of lent words");
+    assert_eq!(answers.refusals(), [9, 10, 13, 14, 15]);
+    assert!(answers.got(Status::Plan) > 10 && answers.got(Status::None) > 10);
+}

@@ -1,0 +1,292 @@
+//! Asks under an open ceiling on generated instances, the proved call beside the plain twin: what a
+//! try takes, then the same as the season gets longer, and as the table of conflicts does.
+
+use crate::generated::Scheme;
+use crate::plain_ask::{self, Effort};
+use crate::table;
+use crate::timing::Times;
+use reference::{block_len, encode, Plan};
+use std::hint::black_box;
+
+/// A ceiling that no schedule is above.
+const OPEN: u32 = (1 << 28) - 1;
+/// How often each side of a case is timed.
+const ROUNDS: usize = 15;
+/// About how many tries are timed together.
+const TRIES: u32 = 1_500_000;
+/// The words of the longest table.
+const LONGEST: usize = 16_384;
+
+/// Holds the proved call against the plain twin on all asks, times them, prints three tables.
+pub fn run() {
+    let rounds = format!("{ROUNDS} rounds of about {TRIES} tries");
+    table::preamble(&rounds);
+    time_instances();
+    println!();
+    time_seasons();
+    println!();
+    time_tables();
+    println!();
+    println!("Status: 1 plan, 2 none, 3 spent with a best, 4 spent without one.");
+    println!(
+        "Weeks: of a tried overhaul, in the mean. Lookups: those that got as far as the memo."
+    );
+    println!("Misses: those that it did not have. Both are the twin's, for a try.");
+    println!("A try has its share of the whole call: the file read, the words cleared, the block.");
+}
+
+/// Instances of many sizes, with a budget that most of them spend.
+fn time_instances() {
+    println!("open ceiling, {TRIES} tries, table of {LONGEST} words; microseconds a try");
+    table::titles(&["status", "tries", "proved us", "plain us", "proved/plain"]);
+    for (case, scheme) in instances() {
+        let measured = Measured::of(&scheme.plan(), TRIES, LONGEST);
+        let (proved, plain) = measured.microseconds();
+        table::figures(
+            case,
+            &[
+                (f64::from(measured.status), 0),
+                (f64::from(measured.effort.tries), 0),
+                (proved, 3),
+                (plain, 3),
+                (measured.times.ratio(), 2),
+            ],
+        );
+    }
+}
+
+/// Instances named by their units, their weeks and the demand; narrow windows leave five starts.
+fn instances() -> [(&'static str, Scheme); 8] {
+    let mid = |units, weeks, crews, seed| Scheme {
+        weeks,
+        units,
+        crews,
+        seed,
+        ..Scheme::default()
+    };
+    [
+        ("6x8 mid", mid(6, 8, 2, 168)),
+        ("8x13 mid", mid(8, 13, 2, 1813)),
+        ("10x13 mid", mid(10, 13, 2, 11_013)),
+        ("12x13 mid", mid(12, 13, 3, 11_213)),
+        ("15x13 mid", mid(15, 13, 3, 11_513)),
+        ("16x20 mid", mid(16, 20, 3, 11_620)),
+        ("16x52 mid", mid(16, 52, 2, 11_652)),
+        ("15x13 narrow", narrow(5, 2)),
+    ]
+}
+
+/// 15 units over 13 weeks, with windows that leave so many starts, and so many excluded pairs.
+fn narrow(window: u32, pairs: usize) -> Scheme {
+    Scheme {
+        seed: 711_513,
+        window,
+        pairs,
+        ..Scheme::default()
+    }
+}
+
+/// The same plant over longer and longer seasons: a try looks at the weeks of its overhaul alone,
+/// so it takes no longer, but for the weeks that get as far as the memo, of which there are more
+/// where fewer units are out, and for the cheapest runs that the memo has not.
+fn time_seasons() {
+    println!("15 units of the same durations, open ceiling; microseconds a try");
+    table::titles(&[
+        "tries",
+        "weeks",
+        "lookups",
+        "misses",
+        "proved us",
+        "plain us",
+        "proved/plain",
+    ]);
+    for budget in [20_000, TRIES] {
+        for (case, weeks) in [("13 weeks", 13), ("26 weeks", 26), ("52 weeks", 52)] {
+            time_season(case, weeks, budget);
+        }
+    }
+}
+
+fn time_season(case: &str, weeks: u32, budget: u32) {
+    let season = |weeks| Scheme {
+        weeks,
+        seed: 11_513,
+        ..Scheme::default()
+    };
+    let (plan, shortest) = (season(weeks).plan(), season(13).plan());
+    assert_eq!(plan.duration, shortest.duration, "the plant is the same");
+    let measured = Measured::of(&plan, budget, LONGEST);
+    let Effort { tries, .. } = measured.effort;
+    let a_try = |count: u64| count as f64 / f64::from(tries);
+    let (proved, plain) = measured.microseconds();
+    table::figures(
+        case,
+        &[
+            (f64::from(tries), 0),
+            (a_try(measured.effort.weeks), 2),
+            (a_try(measured.effort.lookups), 2),
+            (a_try(measured.effort.misses), 4),
+            (proved, 3),
+            (plain, 3),
+            (measured.times.ratio(), 2),
+        ],
+    );
+}
+
+/// Files with narrow windows and many pairs, which leave many dead ends of few choices, and tables
+/// with room for some of them or for most.
+fn time_tables() {
+    println!("15x13, windows of 4 or 5 starts, open ceiling; microseconds a try");
+    table::titles(&[
+        "status",
+        "tries",
+        "words used",
+        "proved us",
+        "plain us",
+        "proved/plain",
+    ]);
+    for (name, scheme) in [("30 pairs", narrow(4, 30)), ("40 pairs", narrow(5, 40))] {
+        for length in [64, 1024, LONGEST] {
+            let measured = Measured::of(&scheme.plan(), TRIES, length);
+            let (proved, plain) = measured.microseconds();
+            table::figures(
+                &format!("{name}, {length} words"),
+                &[
+                    (f64::from(measured.status), 0),
+                    (f64::from(measured.effort.tries), 0),
+                    (measured.used as f64, 0),
+                    (proved, 3),
+                    (plain, 3),
+                    (measured.times.ratio(), 2),
+                ],
+            );
+        }
+    }
+}
+
+/// What an ask under an open ceiling came to, and what it took.
+struct Measured {
+    status: u32,
+    /// The words of the table up to the last conflict.
+    used: usize,
+    effort: Effort,
+    times: Times,
+}
+
+impl Measured {
+    /// Asks both sides on a plan with so many tries and words of table; panics where they differ.
+    /// Short asks are timed many at a time.
+    fn of(plan: &Plan, budget: u32, table: usize) -> Self {
+        let words = encode(plan);
+        let mut lent = Lent::new(plan, table);
+        let effort = checked(&words, OPEN, budget, &mut lent);
+        let last = lent.table.iter().rposition(|&word| word != 0);
+        let (status, used) = (lent.answer[0], last.map_or(0, |last| last + 1));
+        let mut other = lent.clone();
+        let times = Times::in_rounds(
+            ROUNDS,
+            (TRIES / effort.tries.max(1)).max(1),
+            || proved(black_box(&words), OPEN, budget, black_box(&mut lent)),
+            || plain(black_box(&words), OPEN, budget, black_box(&mut other)),
+        );
+        Measured {
+            status,
+            used,
+            effort,
+            times,
+        }
+    }
+
+    /// The microseconds for a try: proved, plain.
+    fn microseconds(&self) -> (f64, f64) {
+        let (proved, plain) = self.times.medians();
+        let thousands = 1000.0 * f64::from(self.effort.tries);
+        (proved / thousands, plain / thousands)
+    }
+}
+
+/// Words lent to an ask.
+#[derive(Clone)]
+struct Lent {
+    answer: Vec<u32>,
+    table: Vec<u32>,
+    scratch: Vec<u32>,
+}
+
+impl Lent {
+    /// As many words as a plan wants, and so many for the table.
+    fn new(plan: &Plan, table: usize) -> Self {
+        Lent {
+            answer: vec![0; block_len(plan)],
+            table: vec![0; table],
+            scratch: vec![0; 1 << plan.units],
+        }
+    }
+}
+
+fn proved(words: &[u32], ceiling: u32, budget: u32, lent: &mut Lent) {
+    let Lent {
+        answer,
+        table,
+        scratch,
+    } = lent;
+    ffi::ask(words, ceiling, budget, answer, table, scratch).expect("accepted");
+}
+
+fn plain(words: &[u32], ceiling: u32, budget: u32, lent: &mut Lent) -> Effort {
+    let Lent {
+        answer,
+        table,
+        scratch,
+    } = lent;
+    plain_ask::ask(words, ceiling, budget, answer, table, scratch).expect("accepted")
+}
+
+/// What the twin took; panics unless the proved call leaves the same block and the same table,
+/// which are then in the lent words.
+fn checked(words: &[u32], ceiling: u32, budget: u32, lent: &mut Lent) -> Effort {
+    let mut expected = lent.clone();
+    let effort = plain(words, ceiling, budget, &mut expected);
+    proved(words, ceiling, budget, lent);
+    assert_eq!(lent.answer, expected.answer, "proved block, then plain");
+    assert!(lent.table == expected.table, "the tables differ");
+    effort
+}
+
+/// These link the archive of the proved code, as all tests of `agree` do.
+#[cfg(test)]
+mod tests {
+    use super::{checked, instances, narrow, Lent, OPEN};
+    use crate::generated::small_plan;
+    use reference::encode;
+
+    #[test]
+    fn proved_and_plain_leave_the_same_words_on_small_files() {
+        for seed in 0..600 {
+            let plan = small_plan(seed);
+            let mut lent = Lent::new(&plan, [64, 500][seed as usize % 2]);
+            let words = encode(&plan);
+            checked(&words, OPEN, OPEN, &mut lent);
+            let cost = lent.answer[1];
+            for ceiling in [0, cost.saturating_sub(1), cost, OPEN] {
+                for budget in [1, 2, 3, 5, 10, 20, 50] {
+                    checked(&words, ceiling, budget, &mut lent);
+                }
+            }
+        }
+    }
+
+    #[test]
+    fn proved_and_plain_leave_the_same_words_on_generated_ones() {
+        let noting = [("", narrow(4, 30)), ("", narrow(5, 40))];
+        for (_, scheme) in instances().into_iter().chain(noting) {
+            let plan = scheme.plan();
+            for table in [64, 100, 1024, 16_384] {
+                let mut lent = Lent::new(&plan, table);
+                for budget in [1, 20, 1000, 30_000] {
+                    checked(&encode(&plan), OPEN, budget, &mut lent);
+                }
+            }
+        }
+    }
+}
