@@ -156,11 +156,11 @@ costs-into a b p qs cs r e h = h ∙ ap (λ (x : model.Verdict). costsInto x p q
 pub scratch-kept : (a b : model.Verdict) (xs ys : List ℕ) → a ≡ b → KeptIfRefused a xs ys → KeptIfRefused b xs ys
 scratch-kept a b xs ys e h = subst (λ (x : model.Verdict). KeptIfRefused x xs ys) e h
 
--- the same outcome of an ask
-pub ask-outcome : (a : model.Verdict) (file asks answers₀ table₀ scratch₀ answers table scratch : List ℕ)
+-- the same outcome of a run
+pub run-outcome : (a : model.Verdict) (file asks answers₀ table₀ scratch₀ answers table scratch : List ℕ)
     → Ran a file asks answers₀ table₀ scratch₀ answers table scratch
     → Outcome (runVerdict file asks (length table₀) (length answers₀) (length scratch₀)) file asks answers₀ table₀ scratch₀ answers table scratch
-ask-outcome a file asks answers₀ table₀ scratch₀ answers table scratch r =
+run-outcome a file asks answers₀ table₀ scratch₀ answers table scratch r =
     subst (λ (v : model.Verdict). Outcome v file asks answers₀ table₀ scratch₀ answers table scratch) (r .told) (r .outcome)
 
 -- and the same words

@@ -1,6 +1,7 @@
 // The functions that Rust and C link: numbers and slices only, no `requires`. A load, a read or a drawing answers with the refusal's number, 0
 // for none; a load's place is always 0, and a read's has a function of its own. The sizing figure of a refused file is 0. A judgement is
-// one number, and its refusal's place has a function of its own. A quote is one number too; its refusals are the file's, so the read's place serves.
+// one number, and its refusal's place has a function of its own. A quote is one number too; its refusals are the file's, so the read's place serves,
+// as it does for a list of week costs. A run of asks has its refusal's number, and the place from a function of its own.
 ghost use mathlib.Core.Path.{_≡_};
 ghost use lib.ListN.{length};
 ghost use Rattle.model.specs.Bytes.{loadOf, loadedInto};
@@ -16,7 +17,6 @@ ghost use Rattle.decoder.specs.Answers.{verdictOf, replyOf};
 ghost use Rattle.checker.specs.Answers.{judgementOf};
 ghost use Rattle.quotes.specs.Quotes.{quoteWith, runQuote, upkeepQuote, costsVerdict, costsInto, KeptIfRefused};
 ghost use Rattle.quotes.specs.Answers.{quotedOf};
-ghost use Rattle.planner.specs.Block.{askWords};
 ghost use Rattle.capi.specs.Codes.{refusedBy, refusedAt, deniedBy, given, judgedCode, judgedPlace, quotedCode};
 
 // The number of a verdict's refusal.
@@ -209,39 +209,37 @@ pub extern "C" fn novelbrisca_week_costs(
     refusal_number(verdict)
 }
 
-// One ask, a ceiling and a budget of tries, answered in the lent words: the refusal's number, 0 where it was answered.
+// A run of asks, each answered in its block of the lent words: the refusal's number, 0 where all were answered.
 #[no_mangle]
-pub extern "C" fn novelbrisca_ask(
+pub extern "C" fn novelbrisca_run(
     words: &[u32],
-    ceiling: u32,
-    budget: u32,
-    answer: &mut [u32],
+    asks: &[u32],
+    answers: &mut [u32],
     table: &mut [u32],
     scratch: &mut [u32],
 ) -> u32
-    ensures answer { λ r. ⌜ r ≡ refusedBy (runVerdict (now (words .entry)) (askWords ceiling budget)
-        (length (now (table .entry))) (length (now (answer .entry))) (length (now (scratch .entry)))) ⌝ }
-    ensures lent { λ r. ⌜ Outcome (runVerdict (now (words .entry)) (askWords ceiling budget)
-        (length (now (table .entry))) (length (now (answer .entry))) (length (now (scratch .entry))))
-        (now (words .entry)) (askWords ceiling budget) (now (answer .entry)) (now (table .entry)) (now (scratch .entry))
-        (now (answer .exit)) (now (table .exit)) (now (scratch .exit)) ⌝ }
+    ensures answer { λ r. ⌜ r ≡ refusedBy (runVerdict (now (words .entry)) (now (asks .entry))
+        (length (now (table .entry))) (length (now (answers .entry))) (length (now (scratch .entry)))) ⌝ }
+    ensures lent { λ r. ⌜ Outcome (runVerdict (now (words .entry)) (now (asks .entry))
+        (length (now (table .entry))) (length (now (answers .entry))) (length (now (scratch .entry))))
+        (now (words .entry)) (now (asks .entry)) (now (answers .entry)) (now (table .entry)) (now (scratch .entry))
+        (now (answers .exit)) (now (table .exit)) (now (scratch .exit)) ⌝ }
 {
-    let verdict = planner::ask(words, ceiling, budget, answer, table, scratch);
+    let verdict = planner::run(words, asks, answers, table, scratch);
     refusal_number(verdict)
 }
 
-// The place of that refusal, 0 where the ask is answered; lent memory by its numbers of words.
+// The place of that refusal, 0 where the asks are answered; lent memory by its numbers of words.
 #[no_mangle]
-pub extern "C" fn novelbrisca_ask_place(
+pub extern "C" fn novelbrisca_run_place(
     words: &[u32],
-    ceiling: u32,
-    budget: u32,
-    answer: usize,
+    asks: &[u32],
+    answers: usize,
     table: usize,
     scratch: usize,
 ) -> usize
-    ensures { λ r. ⌜ r ≡ refusedAt (runVerdict (now (words .entry)) (askWords ceiling budget) table answer scratch) ⌝ }
+    ensures { λ r. ⌜ r ≡ refusedAt (runVerdict (now (words .entry)) (now (asks .entry)) table answers scratch) ⌝ }
 {
-    let verdict = planner::run_verdict(words, ceiling, budget, table, answer, scratch);
+    let verdict = asks::run_verdict(words, asks, table, answers, scratch);
     refusal_place(verdict)
 }

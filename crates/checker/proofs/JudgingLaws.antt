@@ -1,7 +1,7 @@
 -- The judge step by step: the grid's own refusals, the judgement on its cells, and what the whole call answers.
 -- Assumes nothing.
-use Prim.Native.Nat.{ℕ, suc, _+_, _*_, _-_, _≤_, _<_}
-use mathlib.Core.Path.{_≡_, sym, _∙_, ap}
+use Prim.Native.Nat.{ℕ, _+_, _*_, _≤_, _<_}
+use mathlib.Core.Path.{_≡_, refl, sym, _∙_}
 use mathlib.Core.List.{List}
 use native.Mathlib.Omega.{arith}
 use lib.ListN.{length, getD}
@@ -15,7 +15,7 @@ use Rattle.model.specs.Verdict.{accepted, refused, andThen, firstFault}
 use Rattle.model.specs.Reading.{readOf}
 use Rattle.model.specs.Refusal.{cellFault, gridVerdict}
 use Rattle.model.specs.Judgement.{soundAt, breaks, rejected, judgement, judgeOf}
-use Rattle.model.proofs.VerdictLaws.{accepted-cells}
+use Rattle.model.proofs.VerdictLaws.{Onward, onward-fault, onward-next, accepted-cells}
 use Rattle.instance.specs.Filed.{Filed}
 use Rattle.instance.proofs.FiledLaws.{filed, weeks-are, units-are, cells-are}
 use Rattle.decoder.specs.Answers.{verdictOf}
@@ -27,33 +27,16 @@ use Rattle.checker.specs.Stated.{Stated}
 
 -- ---- 12, at the first byte above 2
 
--- the verdict on all bytes is that from byte q on
-pub record Onward (g : List ℕ) (q : ℕ) : Type 0 where
-  pub same : firstFault (cellFault g) 0 (length g) ≡ firstFault (cellFault g) q (length g - q)
+module _ (g : List ℕ) (q : ℕ) (on : Onward (cellFault g) (length g) q) (h : q < length g) where
+  -- a byte above 2
+  pub cells-fault : 2 < getD g q 0 → refused 12 q ≡ firstFault (cellFault g) 0 (length g)
+  unfolding cellFault
+  cells-fault e = onward-fault (cellFault g) (length g) q on h 12 (simp (lt-leb (getD g q 0) 2 e)) (λ z. absurd (omega arith))
 
--- before the first byte
-pub cells-start : (g : List ℕ) → Onward g 0
-cells-start g = record { same = let n : length g ≡ length g - 0 = omega arith in ap (firstFault (cellFault g) 0) n }
-
-module _ (g : List ℕ) (q : ℕ) (on : Onward g q) where
-  -- past the last
-  pub cells-ended : length g ≤ q → accepted ≡ firstFault (cellFault g) 0 (length g)
-  unfolding firstFault
-  cells-ended h = let n : length g - q ≡ 0 = omega arith in sym (on .same ∙ rw n)
-
-  module _ (h : q < length g) where
-    more : length g - q ≡ suc (length g - (q + 1))
-    more = omega arith
-
-    -- a byte above 2
-    pub cells-fault : 2 < getD g q 0 → refused 12 q ≡ firstFault (cellFault g) 0 (length g)
-    unfolding firstFault cellFault
-    cells-fault e = sym (on .same ∙ rw more (simp (lt-leb (getD g q 0) 2 e)))
-
-    -- any other
-    pub cells-next : getD g q 0 ≤ 2 → Onward g (q + 1)
-    unfolding firstFault cellFault
-    cells-next e = record { same = on .same ∙ rw more (simp (le-leb (getD g q 0) 2 e)) }
+  -- any other
+  pub cells-next : getD g q 0 ≤ 2 → Onward (cellFault g) (length g) (q + 1)
+  unfolding cellFault
+  cells-next e = onward-next (cellFault g) (length g) q on h 0 (simp (le-leb (getD g q 0) 2 e)) refl
 
 -- ---- 11, then 12
 

@@ -3,86 +3,52 @@
 use Prim.Native.Nat.{ℕ, _-_, _/_, _%_, _≤_, _<_}
 use mathlib.Core.Path.{_≡_, refl, sym, _∙_, ap}
 use mathlib.Core.Bool.{Bool, true, false}
-use mathlib.Core.List.{List, _++_}
+use mathlib.Core.List.{List}
 use native.Mathlib.Omega.{arith}
 use lib.ListN.{length, take, drop, length-drop}
-use lib.Seq.{take-at, take-all, length-take-le}
+use lib.Seq.{take-all, length-take-le}
 use lib.Dec.{leb, eqb}
 use borrow.Author.Tests.{le-leb, lt-leb}
 use Rattle.sums.specs.Logic.{if}
-use Rattle.sums.proofs.RangeLaws.{list-length}
-use Rattle.model.specs.Bytes.{wordAt, wordsTo, bytesVerdict, loadOf, loadedInto, fileEnd}
+use Rattle.model.specs.Bytes.{wordsTo, bytesVerdict, loadOf, loadedInto, fileEnd}
 use Rattle.model.specs.Verdict as model
 use Rattle.model.specs.Judgement as judging
 use Rattle.decoder.specs.Answers.{replyOf}
 use Rattle.decoder.specs.declared.Reply.{Reply}
 use Rattle.decoder.specs.declared.Reply.the-variants.{Number, Denied}
+use Rattle.input.proofs.LoadedLaws.{load-refused, load-accepted, load-front}
 use Rattle.checker.specs.Answers.{judgementOf}
 use Rattle.checker.specs.declared.Judgement.{Judgement}
 
 -- ---- the file's bytes as words
 
--- a judgement where nothing is denied
-abbrev answered : model.Reply → judging.Judgement → judging.Judgement
-answered (model.gives n) j = j
-answered (model.denies number place) j = judging.rejected number place
-
--- the number given, d where there is none
-abbrev givenOr : ℕ → model.Reply → ℕ
-givenOr d (model.gives n) = n
-givenOr d (model.denies number place) = d
-
-module _ (fs : List ℕ) (short : length fs ≤ 32768) where
+module _ (fs : List ℕ) (short : length fs ≤ 32768) (g : List ℕ) where
   -- 8,192 words are enough
   enough : leb (length fs / 4) 8192 ≡ true
   enough = le-leb (length fs / 4) 8192 (omega arith)
 
-  load-answered : (j : judging.Judgement) → if (eqb (length fs % 4) 0) j (judging.rejected 16 0) ≡ answered (loadOf fs 8192) j
-  unfolding loadOf bytesVerdict model.replyWith
-  load-answered j = go (eqb (length fs % 4) 0)
+  bytes-verdict : judging.judgeBytes fs g ≡ judging.judged (bytesVerdict (length fs) 8192) (judging.judgeOf (wordsTo fs (length fs / 4)) g)
+  unfolding judging.judgeBytes bytesVerdict
+  bytes-verdict = go (eqb (length fs % 4) 0)
     where
-      go : (b : Bool) → if b j (judging.rejected 16 0) ≡ answered
-          (model.replyWith (if b (if (leb (length fs / 4) 8192) model.accepted (model.refused 17 0)) (model.refused 16 0)) (length fs / 4)) j
+      go : (b : Bool) → if b (judging.judgeOf (wordsTo fs (length fs / 4)) g) (judging.rejected 16 0) ≡ judging.judged
+          (if b (if (leb (length fs / 4) 8192) model.accepted (model.refused 17 0)) (model.refused 16 0))
+          (judging.judgeOf (wordsTo fs (length fs / 4)) g)
       go true = rw enough
       go false = refl
 
-  load-given : givenOr (length fs / 4) (loadOf fs 8192) ≡ length fs / 4
-  unfolding loadOf model.replyWith
-  load-given = go (bytesVerdict (length fs) 8192)
-    where
-      go : (v : model.Verdict) → givenOr (length fs / 4) (model.replyWith v (length fs / 4)) ≡ length fs / 4
-      go model.accepted = refl
-      go (model.refused number place) = refl
-
-  module _ (g : List ℕ) (r : Reply) (said : replyOf r ≡ loadOf fs 8192) where
-    bytes-answered : judging.judgeBytes fs g ≡ answered (replyOf r) (judging.judgeOf (wordsTo fs (length fs / 4)) g)
-    unfolding judging.judgeBytes
-    bytes-answered = rw said (load-answered (judging.judgeOf (wordsTo fs (length fs / 4)) g))
-
+  module _ (r : Reply) (said : replyOf r ≡ loadOf fs 8192) where
     -- the bytes are denied
     pub bytes-denied : (number place : ℕ) → r ≡ Denied number place → judging.rejected number place ≡ judging.judgeBytes fs g
-    bytes-denied number place is = sym (bytes-answered ∙ rw is)
+    bytes-denied number place is = sym (bytes-verdict ∙ rw (load-refused fs 8192 r said number place is))
 
-    module _ (n : ℕ) (is : r ≡ Number n) where
-      -- the words written, and what was there beyond them
-      into : (words : List ℕ) → loadedInto (replyOf r) fs words ≡ wordsTo fs n ++ drop n words
-      unfolding loadedInto
-      into words = rw is
-
-      words-length : length (wordsTo fs n) ≡ n
-      unfolding wordsTo
-      words-length = list-length n (wordAt fs)
-
-      count : n ≡ length fs / 4
-      count = let q : model.gives n ≡ loadOf fs 8192 = rw is at said in ap (givenOr (length fs / 4)) q ∙ load-given
-
-      -- the words loaded are the file
-      pub bytes-judged : (words ws front : List ℕ) (j : Judgement) → ws ≡ loadedInto (replyOf r) fs words → front ≡ take n ws
-          → judgementOf j ≡ judging.judgeOf front g → judgementOf j ≡ judging.judgeBytes fs g
-      bytes-judged words ws front j left cut e = e ∙ ap (λ (x : List ℕ). judging.judgeOf x g) loaded ∙ sym (bytes-answered ∙ rw is)
-        where
-          loaded : front ≡ wordsTo fs (length fs / 4)
-          loaded = cut ∙ ap (take n) (left ∙ into words) ∙ take-at (wordsTo fs n) (drop n words) n words-length ∙ ap (wordsTo fs) count
+    -- the words loaded are the file
+    pub bytes-judged : (n : ℕ) → r ≡ Number n → (words ws front : List ℕ) (j : Judgement) → ws ≡ loadedInto (replyOf r) fs words → front ≡ take n ws
+        → judgementOf j ≡ judging.judgeOf front g → judgementOf j ≡ judging.judgeBytes fs g
+    bytes-judged n is words ws front j left cut e =
+        e
+        ∙ ap (λ (x : List ℕ). judging.judgeOf x g) (load-front fs 8192 r said n is words ws front left cut)
+        ∙ sym (bytes-verdict ∙ rw (load-accepted fs 8192 r said n is))
 
 -- ---- the whole input
 

@@ -17,8 +17,9 @@ use Rattle.model.specs.Best.{Everywhere, NoneAllowed}
 use Rattle.model.specs.Nogood.{Nogood, Holds, nogoodsWords, boundsAlone, Table}
 use Rattle.model.specs.Answer.{Answer, optimal, infeasible, Found, Correct, zeros, blocksOf}
 use Rattle.model.specs.Asks.{askCount, ceilingAt, budgetAt, answerAt, Follows, concluded, Answered}
+use Rattle.model.specs.Lines.{printed}
 use Rattle.figures.specs.Files.{fileA}
-use Rattle.figures.specs.Worked.{asksA, answersA, tableA, WorkedRun}
+use Rattle.figures.specs.Worked.{asksA, answersA, tableA, WorkedRun, WorkedText}
 use Rattle.figures.proofs.Figures.{figures}
 
 -- P1 under a higher ceiling, and P2
@@ -106,3 +107,8 @@ worked answers₀ table₀ scratch₀ scratch a t s = record {
   told = rw (a, t, s) verdict-A;
   outcome = (answered-A answers₀ a, sym t);
 }
+
+-- the lines of the worked run are the paper's
+pub worked-text : WorkedText
+unfolding printed
+worked-text = refl

@@ -1,12 +1,13 @@
 -- Where a program's file ends: the search for its end word, a word at a time; and the front of a list of words.
 -- Assumes nothing.
-use Prim.Native.Nat.{ℕ, _+_, _*_, _/_, _≤_, _<_}
+use Prim.Native.Nat.{ℕ, _+_, _*_, _-_, _/_, _≤_, _<_}
 use mathlib.Core.Path.{_≡_, refl, sym, _∙_, ap}
 use mathlib.Core.Bool.{false}
 use mathlib.Core.List.{List}
 use native.Mathlib.Nat.{le-of-lt}
-use lib.ListN.{length, take}
-use lib.Seq.{take-all, length-take-le}
+use native.Mathlib.Omega.{arith}
+use lib.ListN.{length, take, drop, length-drop}
+use lib.Seq.{take-all, length-take-le, ext-getD}
 use borrow.Author.Tests.{eq-eqb, ne-eqb}
 use Rattle.sums.specs.Range.{someTo}
 use Rattle.sums.proofs.RangeLaws.{some-of, first-here}
@@ -40,7 +41,7 @@ module _ (bs : List ℕ) (n k : ℕ) (count : n ≡ length bs / 4) (clear : some
   unfolding fileEnd
   end-none h g = rw (← count, ← (some-ended (isEnd bs) k n false h g (sym clear)))
 
--- ---- the first n words
+-- ---- the first n words, and the rest
 
 module _ (ws : List ℕ) (n : ℕ) where
   -- are n words
@@ -50,3 +51,14 @@ module _ (ws : List ℕ) (n : ℕ) where
   -- or all
   pub front-all : length ws ≤ n → ws ≡ take n ws
   front-all h = sym (take-all n ws h)
+
+  -- the rest
+  pub back-rest : take (length ws - n) (drop n ws) ≡ drop n ws
+  back-rest = take-all (length ws - n) (drop n ws) (omega (arith, length-drop n ws))
+
+  -- is none where there are no more
+  pub back-none : length ws ≤ n → take (length ws - length ws) (drop (length ws) ws) ≡ drop n ws
+  back-none h =
+      ext-getD 0 (take (length ws - length ws) (drop (length ws) ws)) (drop n ws)
+      (omega (arith, length-take-le (length ws - length ws) (drop (length ws) ws) (omega arith), length-drop n ws))
+      (λ i l. absurd (omega (arith, length-take-le (length ws - length ws) (drop (length ws) ws) (omega arith))))

@@ -1,7 +1,7 @@
 // A program's input: a file's bytes up to and with the first word of kind 15, then the bytes of what is asked about the file.
 ghost use Prim.Native.Nat.{_≤_};
 ghost use mathlib.Core.Path.{_≡_};
-ghost use lib.ListN.{length, take};
+ghost use lib.ListN.{length, take, drop};
 ghost use Rattle.model.specs.Bytes.{fileEnd};
 
 // How many of the bytes are the file's.
@@ -26,4 +26,14 @@ pub fn front(words: &[u32], n: usize) -> &[u32]
         return words;
     }
     &words[..n]
+}
+
+// The words after the first n.
+pub fn back(words: &[u32], n: usize) -> &[u32]
+    ensures { λ r. ⌜ now r ≡ drop n (now (words .entry)) ⌝ }
+{
+    if n < words.len() {
+        return &words[n..];
+    }
+    &words[words.len()..]
 }

@@ -1,6 +1,6 @@
 -- Grids as bytes: the states that they tell, and the verdict on any bytes as a grid (refusals 11 and 12).
 -- Assumes nothing.
-use Prim.Native.Nat.{ℕ, zero, suc, _+_, _*_, _/_, _%_, _≤_, _<_}
+use Prim.Native.Nat.{ℕ, zero, suc, _+_, _*_, _-_, _/_, _%_, _≤_, _<_}
 use mathlib.Core.Path.{_≡_, refl, sym, _∙_, ap, ap₂}
 use mathlib.Core.Bool.{Bool, true, false}
 use mathlib.Core.List.{List}
@@ -10,7 +10,7 @@ use native.Mathlib.Omega.{arith}
 use lib.Arith.{digits-lt, digits-div, digits-mod}
 use lib.Dec.{leb, eqb}
 use lib.ListN.{length, getD}
-use borrow.Author.Tests.{leb-true, le-leb, eqb-true, eq-eqb}
+use borrow.Author.Tests.{leb-true, le-leb, eqb-true, eq-eqb, ne-eqb}
 use Rattle.sums.specs.Logic.{if}
 use Rattle.sums.proofs.RangeLaws.{list-length, list-at}
 use Rattle.model.specs.Problem.{Problem}
@@ -73,6 +73,38 @@ unfolding firstFault
 faulty-none f zero q h = refl
 faulty-none f (suc n) q h =
     rw (eq-eqb (f q) 0 (h q (omega arith) (omega arith))) (faulty-none f n (q + 1) (λ k l m. h k (omega arith) (omega arith)))
+
+-- ---- places tested one after the other, as a loop does
+
+-- the verdict on n places is that from place q on
+pub record Onward (f : ℕ → ℕ) (n q : ℕ) : Type 0 where
+  pub same : firstFault f 0 n ≡ firstFault f q (n - q)
+
+-- before the first place
+pub onward-start : (f : ℕ → ℕ) (n : ℕ) → Onward f n 0
+onward-start f n = record { same = let z : n ≡ n - 0 = omega arith in ap (firstFault f 0) z }
+
+module _ (f : ℕ → ℕ) (n q : ℕ) (on : Onward f n q) where
+  -- past the last
+  pub onward-ended : n ≤ q → accepted ≡ firstFault f 0 n
+  unfolding firstFault
+  onward-ended h = let z : n - q ≡ 0 = omega arith in sym (on .same ∙ rw z)
+
+  module _ (h : q < n) (v : ℕ) (is : v ≡ f q) where
+    further : n - q ≡ suc (n - (q + 1))
+    further = omega arith
+
+    -- a place with a fault
+    pub onward-fault : (v ≡ 0 → ⊥) → refused v q ≡ firstFault f 0 n
+    unfolding firstFault
+    onward-fault e = sym (on .same ∙ rw further (simp (← is, ne-eqb v 0 e)))
+
+    -- one without
+    pub onward-next : v ≡ 0 → Onward f n (q + 1)
+    unfolding firstFault
+    onward-next e = record { same = on .same ∙ rw further (simp (← is, eq-eqb v 0 e)) }
+
+-- ---- the cells of a grid
 
 -- a byte without a fault is a state
 cell-fits : (v : ℕ) (b : Bool) → leb v 2 ≡ b → _≡_ {A = ℕ} (if b 0 12) 0 → v ≤ MAINT

@@ -1,5 +1,5 @@
--- words written into a lent list, and the words of choices
-pub mod SpliceLaws
+-- the words of choices
+pub mod ChoiceLaws
 -- what noting a dead end and the end of a walk does, as the code goes
 pub mod NotingLaws
 -- a nogood read word by word

@@ -15,9 +15,10 @@ use Rattle.sums.proofs.LogicLaws.{and-left, and-right, not-so}
 use Rattle.model.specs.Words.{_∶_}
 use Rattle.model.specs.Nogood.{Choice, Nogood, choiceWords, nogoodWords}
 use Rattle.blame.specs.Closed.{startIn}
-use Rattle.nogood.specs.Noting.{choiceOf, choicesOf, nogoodFor, spliced, notable, notedUsed, noted, endUsed, ended}
-use Rattle.nogood.proofs.SpliceLaws.{splice-none, splice-one, splice-behind, splice-length}
-use Rattle.nogood.proofs.SpliceLaws.{choice-words-append, choice-words-length, choices-count, choice-most, choices-most}
+use Rattle.lent.specs.Splice.{spliced}
+use Rattle.nogood.specs.Noting.{choiceOf, choicesOf, nogoodFor, notable, notedUsed, noted, endUsed, ended}
+use Rattle.lent.proofs.SpliceLaws.{splice-none, splice-one, splice-behind, splice-length}
+use Rattle.nogood.proofs.ChoiceLaws.{choice-words-append, choice-words-length, choices-count, choice-most, choices-most}
 
 -- ---- a unit's choice
 

@@ -19,10 +19,12 @@ use Rattle.model.specs.Nogood.{Choice, Nogood, IsNogood, AreNogoods, DeadEndsBe
 use Rattle.model.specs.Nogood.{aloneFirst, boundsAlone}
 use Rattle.model.proofs.NogoodLaws.{nogoods-words-append, bounds-alone-append}
 use Rattle.blame.specs.Closed.{Closed, startIn}
-use Rattle.nogood.specs.Noting.{choicesOf, nogoodFor, spliced, notable, notedUsed, noted, endBounds, endUsed, ended}
+use Rattle.lent.specs.Splice.{spliced}
+use Rattle.nogood.specs.Noting.{choicesOf, nogoodFor, notable, notedUsed, noted, endBounds, endUsed, ended}
 use Rattle.nogood.specs.Recall.{Has, Recall}
 use Rattle.nogood.specs.Stock.{Stock}
-use Rattle.nogood.proofs.SpliceLaws.{splice-one, splice-length, choice-words-length}
+use Rattle.lent.proofs.SpliceLaws.{splice-one, splice-length}
+use Rattle.nogood.proofs.ChoiceLaws.{choice-words-length}
 use Rattle.nogood.proofs.NotingLaws.{notable-has}
 use Rattle.nogood.proofs.DeadEndLaws.{dead-end-nogood, walk-end-nogood}
 use Rattle.nogood.proofs.LookupLaws.{BoundsHold, bound-holds}

@@ -3,10 +3,11 @@
 use Prim.Native.Nat.{ℕ, zero, suc, _+_, _-_}
 use mathlib.Core.Bool.{Bool, _&&_}
 use mathlib.Core.List.{List, [], _∷_, _++_}
-use lib.ListN.{length, take, drop, set}
+use lib.ListN.{length, set}
 use lib.Dec.{leb, eqb}
 use Rattle.sums.specs.Logic.{if}
 use Rattle.sums.specs.NumSet.{NumSet}
+use Rattle.lent.specs.Splice.{spliced}
 use Rattle.model.specs.Words.{_∶_}
 use Rattle.model.specs.Nogood.{Choice, Nogood, nogoodWords}
 
@@ -23,10 +24,6 @@ choicesOf starts b (suc k) = choicesOf starts b k ++ choiceOf starts b k
 -- the starts of the units of b below k are a dead end below a limit: no schedule with them costs limit - 1 or less
 abbrev pub nogoodFor : (ℕ → ℕ) → NumSet → (k limit : ℕ) → Nogood
 nogoodFor starts b k limit = record { bound = limit - 1; choices = choicesOf starts b k }
-
--- a list with others in the place of its words from `at` on
-unfoldable pub spliced : ℕ → (ws d : List ℕ) → List ℕ
-spliced at ws d = take at d ++ ws ++ drop (at + length ws) d
 
 -- a dead end is noted: it has 1 to 8 choices, a bound, and space that leaves the last 32 words free
 unfoldable pub notable : (lent used limit : ℕ) → List Choice → Bool

@@ -8,7 +8,8 @@ ghost use Rattle.sums.specs.NumSet.{has, pick};
 ghost use Rattle.model.specs.Words.{_∶_};
 ghost use Rattle.model.specs.Nogood.{choiceWords, nogoodWords};
 ghost use Rattle.blame.specs.Closed.{startIn};
-ghost use Rattle.nogood.specs.Noting.{choiceOf, choicesOf, nogoodFor, spliced, notedUsed, noted, endUsed, ended};
+ghost use Rattle.lent.specs.Splice.{spliced};
+ghost use Rattle.nogood.specs.Noting.{choiceOf, choicesOf, nogoodFor, notedUsed, noted, endUsed, ended};
 ghost use Rattle.nogood.specs.Recall.{UnitMet, Matched, Recalled};
 
 // No conflict that was looked at is met; or one is, by the starts of these units.

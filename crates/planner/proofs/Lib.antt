@@ -1,10 +1,8 @@
--- what turns an ask away
-pub mod RefusalLaws
--- the block of a reply, word by word
-pub mod BlockLaws
--- those words are the block of the reply's answer
-pub mod ListedLaws
--- one ask on an emptied table, answered
-pub mod AnsweredLaws
--- the verdict on an ask of any words, and a whole run by its verdict
+-- one ask: what it is told, and what is remembered of it
+pub mod MemoryLaws
+-- one ask after the others
+pub mod TurnLaws
+-- a run before the first ask, after one more, and after all
+pub mod GoingLaws
+-- a whole run by its verdict
 pub mod RunLaws

@@ -1,2 +1,4 @@
--- the words of an ask and of its block
-pub mod Block
+-- what a run remembers from one ask to the next
+pub mod Memory
+-- a run after some of its asks
+pub mod Going

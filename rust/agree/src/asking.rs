@@ -1,11 +1,11 @@
-//! Files to ask about, the ceilings and budgets that tell something on them, and words to lend that
-//! are as misleading as can be.
+//! Files to ask about, the ceilings, budgets and lists of asks that tell something on them, and
+//! words to lend that are as misleading as can be.
 
 use crate::plans::{tied_plan, tiny_plan};
 use crate::queries::{all_queries, dirty_scratch};
 use crate::schedules::fitted;
 use crate::{Buffers, Random};
-use reference::{block_len, permitted_starts, word, Plan, Survey};
+use reference::{block_len, permitted_starts, word, Ask, Plan, Survey};
 
 /// The largest ceiling and the largest budget.
 pub const MOST: u32 = (1 << 28) - 1;
@@ -70,6 +70,32 @@ pub fn leave_no_start(plan: &mut Plan, unit: usize) {
     (plan.earliest[unit - 1], plan.latest[unit - 1]) = (weeks, weeks);
 }
 
+/// A plan of 10 to 12 units over 8 weeks with few places: there is little to place, and a dead end
+/// may have more than eight units to blame.
+pub fn many_units(random: &mut Random) -> Plan {
+    let units = random.within(10, 12);
+    let mut plan = asked_plan(random, 8, units);
+    plan.crews = random.within(4, 12);
+    plan.demand
+        .fill(random.within(0, plan.capacity.iter().sum::<u32>() / 2));
+    plan.pairs.truncate(2);
+    plan.duration.fill_with(|| random.within(1, 2));
+    leave_few_starts(&mut plan, random);
+    plan
+}
+
+/// One permitted start for most units and up to three for every third, so that there are few places
+/// though there are many units.
+fn leave_few_starts(plan: &mut Plan, random: &mut Random) {
+    for unit in 0..plan.units as usize {
+        let last = plan.weeks + 1 - plan.duration[unit];
+        let start = random.within(1, last);
+        let more = if unit % 3 == 2 { 2 } else { 0 };
+        plan.earliest[unit] = start;
+        plan.latest[unit] = last.min(start + more);
+    }
+}
+
 /// 0, the cost of the cheapest schedule and one euro around it, the largest that there is, and the
 /// cost of some schedule; rising.
 pub fn telling_ceilings(survey: &Survey, random: &mut Random) -> Vec<u32> {
@@ -105,15 +131,72 @@ pub fn telling_budgets(survey: &Survey, random: &mut Random) -> Vec<u32> {
     budgets
 }
 
-/// Words for an ask on the plan, in numbers that are enough and with dirt in them: some beyond the
-/// block, a table of `table` words, scratch of just enough or a few more.
-pub fn dirty_buffers(plan: &Plan, table: usize, random: &mut Random) -> Buffers {
-    let answer = block_len(plan) + random.place(4);
+/// 1 to 32 asks, often the fewest, the most or a few: ceilings that rise, fall, are all the same or
+/// stay close to the cheapest schedule, and budgets that are all small, all alike, or mixed.
+pub fn telling_asks(survey: &Survey, random: &mut Random) -> Vec<Ask> {
+    let count = match random.within(0, 5) {
+        0 => 1,
+        1 => 32,
+        2 => random.within(1, 32),
+        _ => random.within(2, 6),
+    };
+    let ceilings = listed_ceilings(survey, count, random);
+    let budgets = listed_budgets(survey, count, random);
+    let asks = ceilings.into_iter().zip(budgets);
+    asks.map(|(ceiling, budget)| Ask { ceiling, budget })
+        .collect()
+}
+
+fn listed_ceilings(survey: &Survey, count: u32, random: &mut Random) -> Vec<u32> {
+    let telling = telling_ceilings(survey, random);
+    let least = survey.cheapest(MOST).map(|cheapest| cheapest.cost as u32);
+    let around = least.unwrap_or(0).saturating_sub(random.within(0, count));
+    let mut ceilings: Vec<u32> = (0..count)
+        .map(|_| telling[random.place(telling.len())])
+        .collect();
+    match random.within(0, 6) {
+        0 => ceilings.sort_unstable(),
+        1 => ceilings.sort_unstable_by(|a, b| b.cmp(a)),
+        2 => ceilings.fill(telling[random.place(telling.len())]),
+        // each a euro above the last, and somewhere among them the cheapest schedule
+        3 => ceilings = (around..around + count).collect(),
+        4 => ceilings.fill_with(|| around + random.within(0, count)),
+        5 => ceilings.fill_with(|| random.edgy(0, MOST)),
+        _ => {}
+    }
+    ceilings
+}
+
+fn listed_budgets(survey: &Survey, count: u32, random: &mut Random) -> Vec<u32> {
+    let places = survey.places().len() as u32;
+    let telling = telling_budgets(survey, random);
+    let mut budget = || match random.within(0, 4) {
+        0 => random.within(1, 3),
+        1 => places.saturating_sub(1).max(1) + random.within(0, 2),
+        2 => random.within(1, places.max(1)),
+        3 => MOST,
+        _ => telling[random.place(telling.len())],
+    };
+    let mut budgets: Vec<u32> = (0..count).map(|_| budget()).collect();
+    let first = budgets[0];
+    match random.within(0, 5) {
+        0 => budgets.fill(first),
+        1 => budgets.fill(random.within(1, 3)),
+        2 => budgets.sort_unstable(),
+        _ => {}
+    }
+    budgets
+}
+
+/// Words for so many asks on the plan, in numbers that are enough and with dirt in them: some beyond
+/// the blocks, a table of `table` words, scratch of just enough or a few more.
+pub fn dirty_buffers(plan: &Plan, asks: usize, table: usize, random: &mut Random) -> Buffers {
+    let answers = asks * block_len(plan) + random.place(4);
     let scratch = 2usize.pow(plan.units) + random.place(3) * random.place(10);
     let queries = all_queries(plan);
     let mut scratches = dirty_scratch(&queries, scratch, random);
     Buffers {
-        answer: random.words(answer),
+        answers: random.words(answers),
         table: dirty_table(plan, table, random),
         scratch: scratches.swap_remove(random.place(scratches.len())),
     }

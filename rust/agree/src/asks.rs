@@ -1,17 +1,17 @@
-//! The comparison of asks: the proved answer, its block and its table, held against all schedules
-//! of the reference, or the refusal; every lent word is looked at.
+//! The comparison of runs of asks: what the proved run left, its blocks and its table, held against
+//! all schedules of the reference, or the refusal; every lent word is looked at.
 
 use crate::compare::shown;
 use crate::judgements::proved_judgement;
 use reference::{
-    accept, block_len, check_block, check_final, conflicts, is_true, lay_out, read, runs_of,
-    starts_of, Ask, Conflict, Judgement, Lent, Plan, Refusal, Status, Survey,
+    accept, block_len, check_run, lay_out, read, runs_of, starts_of, Ask, Checked, Conflict,
+    Judgement, Lent, Plan, Refusal, Status, Survey,
 };
 use std::collections::{BTreeMap, BTreeSet};
 use std::fmt::Arguments;
 
-/// What is said of an ask: the status of a block that is right, or the refusal.
-pub type AskAnswer = Result<Status, Refusal>;
+/// What is said of a list of asks: the statuses of blocks that are right, or the refusal.
+pub type ListAnswer = Result<Vec<Status>, Refusal>;
 
 /// A file with what asks on it are held against.
 pub struct AskedFile {
@@ -41,25 +41,26 @@ impl AskedFile {
         self.survey.as_ref().expect("the file is accepted")
     }
 
-    /// Whether a conflict is true. Asks on the same file leave many of the same, so those that
-    /// were looked at are kept.
-    fn is_true(&mut self, conflict: &Conflict) -> bool {
-        if self.known_true.contains(conflict) {
-            return true;
+    /// What is found of a run on the file that left these words; else what is wrong.
+    fn check(&mut self, asks: &[Ask], left: &Left) -> Result<Checked, String> {
+        let survey = self.survey.as_ref().expect("the file is accepted");
+        let known = &mut self.known_true;
+        let checked = check_run(survey, asks, left.blocks, left.table, known)?;
+        let blocks = left.blocks.chunks(block_len(survey.plan()));
+        for (index, block) in blocks.enumerate() {
+            let status = checked.statuses[index];
+            check_tries(survey, asks[index], status)?;
+            check_judged(&self.words, survey.plan(), status, block)?;
         }
-        let holds = is_true(self.survey(), conflict);
-        if holds {
-            self.known_true.insert(conflict.clone());
-        }
-        holds
+        Ok(checked)
     }
 }
 
-/// Words lent to an ask, with what is in them.
+/// Words lent to a run, with what is in them.
 #[derive(Clone, Debug, PartialEq, Eq)]
 pub struct Buffers {
-    /// For the block.
-    pub answer: Vec<u32>,
+    /// For the blocks.
+    pub answers: Vec<u32>,
     /// For conflicts.
     pub table: Vec<u32>,
     /// For anything.
@@ -67,86 +68,127 @@ pub struct Buffers {
 }
 
 impl Buffers {
+    /// As many words of each, all 0.
+    fn cleared(&self) -> Self {
+        Buffers {
+            answers: vec![0; self.answers.len()],
+            table: vec![0; self.table.len()],
+            scratch: vec![0; self.scratch.len()],
+        }
+    }
+
     /// How many words are lent.
     fn lent(&self) -> Lent {
         Lent {
-            answer: self.answer.len(),
+            answers: self.answers.len(),
             table: self.table.len(),
             scratch: self.scratch.len(),
         }
     }
+
+    /// What a run left in them, where its blocks take so many words.
+    fn left(&self, length: usize) -> Left<'_> {
+        Left {
+            blocks: &self.answers[..length],
+            table: &self.table,
+        }
+    }
 }
 
-/// The asks that were answered rightly, by their status, and those that were refused rightly, by
-/// the number; how many plans cost nothing, and how many conflicts with choices were left. A test
-/// that asserts on them cannot pass by comparing nothing.
+/// The words that an answered run left, without those beyond the blocks.
+#[derive(Debug, PartialEq, Eq)]
+struct Left<'a> {
+    blocks: &'a [u32],
+    table: &'a [u32],
+}
+
+/// The runs that were answered rightly and those that were refused rightly, by number; the asks by
+/// status, and how many were settled by those before them; how many plans cost nothing, how many
+/// conflicts with and without choices were left, and how many tables were full to the last word. A
+/// test that asserts on them cannot pass by comparing nothing.
 #[derive(Default)]
 pub struct Answers {
+    runs: usize,
     answered: BTreeMap<Status, usize>,
     refused: BTreeMap<u32, usize>,
+    places: BTreeSet<usize>,
+    settled: usize,
     free: usize,
     noted: usize,
+    concluded: usize,
+    full: usize,
 }
 
 impl Answers {
-    /// Asks the proved call in the lent words, and gives its status or the refusal that both sides
-    /// give; panics, with the origin, the ask and the file, where anything is wrong with the block,
-    /// the words beyond it or the table, or where a refused call changed a word.
+    /// Runs the proved call in the lent words, and gives the statuses or the refusal that both sides
+    /// give; panics, with the origin, the asks and the file, where anything is wrong with a block,
+    /// the words beyond or the table, where a refused call changed a word, or where the same call in
+    /// cleared words leaves other blocks or another table.
     pub fn agreed(
         &mut self,
         file: &mut AskedFile,
-        ask: Ask,
+        asks: &[u32],
         lent: &mut Buffers,
         origin: Arguments,
-    ) -> AskAnswer {
+    ) -> ListAnswer {
         let before = lent.clone();
-        let proved = proved_ask(&file.words, ask, lent);
-        let expected = accept(&file.words, ask, before.lent());
-        let told = format!("{ask:?} on {origin}: {}", shown(&file.words));
+        let proved = proved_asks(&file.words, asks, lent);
+        let expected = accept(&file.words, asks, before.lent());
+        let told = format!("asks {} on {origin}: {}", shown(asks), shown(&file.words));
         let verdict = expected.clone().map(|_| ());
         assert_eq!(proved, verdict, "proved, then reference, {told}");
         match expected {
             Err(refusal) => {
                 assert!(*lent == before, "a lent word changed, {told}");
                 *self.refused.entry(refusal.number).or_default() += 1;
+                self.places.insert(refusal.place);
                 Err(refusal)
             }
-            Ok(plan) => {
-                let (block, beyond) = lent.answer.split_at(block_len(&plan));
-                let kept = &before.answer[block.len()..];
-                assert_eq!(beyond, kept, "beyond the block, then as it was, {told}");
-                let right = self.check(file, ask, block, &lent.table);
-                Ok(right.unwrap_or_else(|reason| panic!("{reason}; block {block:?}, {told}")))
+            Ok((plan, list)) => {
+                let length = list.len() * block_len(&plan);
+                let (beyond, kept) = (&lent.answers[length..], &before.answers[length..]);
+                assert_eq!(beyond, kept, "beyond the blocks, then as it was, {told}");
+                check_again(&file.words, asks, length, lent, &told);
+                let left = lent.left(length);
+                let checked = file.check(&list, &left);
+                let checked = checked
+                    .unwrap_or_else(|reason| panic!("{reason}; blocks {:?}, {told}", left.blocks));
+                self.count(&plan, &checked, &left);
+                Ok(checked.statuses)
             }
         }
     }
 
-    /// The status of an answer that is right in every part; else what is wrong.
-    fn check(
-        &mut self,
-        file: &mut AskedFile,
-        ask: Ask,
-        block: &[u32],
-        table: &[u32],
-    ) -> Result<Status, String> {
-        let status = check_block(file.survey(), ask, block)?;
-        let found = conflicts(file.survey().plan(), table)?;
-        check_final(ask, status, block[1], &found)?;
-        if let Some(untrue) = found.iter().find(|conflict| !file.is_true(conflict)) {
-            return Err(format!("{untrue:?} is not true"));
+    /// Counts a run that is right.
+    fn count(&mut self, plan: &Plan, checked: &Checked, left: &Left) {
+        self.runs += 1;
+        for &status in &checked.statuses {
+            *self.answered.entry(status).or_default() += 1;
         }
-        check_tries(file.survey(), ask, status)?;
-        check_judged(&file.words, file.survey().plan(), status, block)?;
-        let noted = found.iter().filter(|conflict| !conflict.choices.is_empty());
-        self.noted += noted.count();
-        self.free += usize::from(status == Status::Plan && block[1] == 0);
-        *self.answered.entry(status).or_default() += 1;
-        Ok(status)
+        let free = |block: &&[u32]| block[0] == 1 && block[1] == 0;
+        let blocks = left.blocks.chunks(block_len(plan));
+        let without = |conflict: &&Conflict| conflict.choices.is_empty();
+        let concluded = checked.conflicts.iter().filter(without).count();
+        self.settled += checked.settled;
+        self.free += blocks.filter(free).count();
+        self.concluded += concluded;
+        self.noted += checked.conflicts.len() - concluded;
+        self.full += usize::from(left.table.last() != Some(&0));
+    }
+
+    /// How many runs were answered.
+    pub fn runs(&self) -> usize {
+        self.runs
     }
 
     /// How many asks got the status.
     pub fn got(&self, status: Status) -> usize {
         self.answered.get(&status).copied().unwrap_or(0)
+    }
+
+    /// How many asks were settled by those before them.
+    pub fn settled(&self) -> usize {
+        self.settled
     }
 
     /// How many plans cost nothing.
@@ -159,32 +201,73 @@ impl Answers {
         self.noted
     }
 
+    /// How many conflicts without choices were left.
+    pub fn concluded(&self) -> usize {
+        self.concluded
+    }
+
+    /// How many tables were left full to the last word.
+    pub fn full(&self) -> usize {
+        self.full
+    }
+
     /// The refusal numbers that arose, rising.
     pub fn refusals(&self) -> Vec<u32> {
         self.refused.keys().copied().collect()
     }
 
+    /// At how many different places runs were refused.
+    pub fn places(&self) -> usize {
+        self.places.len()
+    }
+
     /// Prints the counts, for those who run the tests with their output shown.
     pub fn report(&self, what: &str) {
         println!(
-            "{what}: {:?}, {} plans cost nothing, {} conflicts with choices, refusals {:?}",
-            self.answered, self.free, self.noted, self.refused
+            "{what}: {} runs, {:?}, {} asks settled, {} plans cost nothing, {} conflicts with \
+             choices, {} without, {} full tables, refusals {:?} at {} places",
+            self.runs,
+            self.answered,
+            self.settled,
+            self.free,
+            self.noted,
+            self.concluded,
+            self.full,
+            self.refused,
+            self.places.len()
         );
     }
 }
 
-/// The proved answer in the lent words, or the refusal in the reference's words.
-pub fn proved_ask(words: &[u32], ask: Ask, lent: &mut Buffers) -> Result<(), Refusal> {
+/// The proved answers in the lent words, or the refusal in the reference's words.
+pub fn proved_asks(words: &[u32], asks: &[u32], lent: &mut Buffers) -> Result<(), Refusal> {
     let Buffers {
-        answer,
+        answers,
         table,
         scratch,
     } = lent;
-    let proved = ffi::ask(words, ask.ceiling, ask.budget, answer, table, scratch);
+    let proved = ffi::run(words, asks, answers, table, scratch);
     proved.map_err(|refusal| Refusal {
         number: refusal.number,
         place: refusal.place,
     })
+}
+
+/// The same call in cleared words leaves the same blocks and the same table, and has place 0, as
+/// the run was answered.
+pub(crate) fn check_again(words: &[u32], asks: &[u32], length: usize, lent: &Buffers, told: &str) {
+    let mut again = lent.cleared();
+    let answered = proved_asks(words, asks, &mut again);
+    assert_eq!(answered, Ok(()), "in cleared words, {told}");
+    let same = again.left(length) == lent.left(length);
+    assert!(same, "other words than in cleared ones, {told}");
+    let Lent {
+        answers,
+        table,
+        scratch,
+    } = lent.lent();
+    let place = ffi::run_place(words, asks, answers, table, scratch);
+    assert_eq!(place, 0, "answered has place 0, {told}");
 }
 
 /// An ask with tries for every place is not spent. The mark says the same, as no place has such a

@@ -1,6 +1,6 @@
 //! What the tests of the proved code against the reference share: files to read, ways to damage
-//! them, grids to judge, queries on weeks, asks, and the comparisons. The tests are in `tests`, one
-//! file a subject.
+//! them, grids to judge, queries on weeks, asks, the comparisons, and the programs. The tests are in
+//! `tests`, one file a subject.
 
 mod asking;
 mod asks;
@@ -9,22 +9,28 @@ mod compare;
 mod damage;
 mod grids;
 mod judgements;
+mod large;
 mod plans;
+mod programs;
 mod queries;
 mod random;
 mod runs;
 mod schedules;
+mod seeds;
 
 pub use asking::{
-    asked_plan, dirty_buffers, dirty_table, leave_no_start, telling_budgets, telling_ceilings, MOST,
+    asked_plan, dirty_buffers, dirty_table, leave_no_start, many_units, telling_asks,
+    telling_budgets, telling_ceilings, MOST,
 };
-pub use asks::{proved_ask, Answers, AskAnswer, AskedFile, Buffers};
+pub use asks::{proved_asks, Answers, AskedFile, Buffers, ListAnswer};
 pub use breaches::{breaches, Case};
 pub use compare::{proved_verdict, Counts, Verdict};
 pub use damage::{edited, near, random_from, recounted, replacements};
 pub use grids::{all_grids, cells_of, edited_grid, random_grid};
 pub use judgements::{proved_judgement, Judgements};
+pub use large::{asks_around, KnownFile};
 pub use plans::{all_pairs, border_plans, largest, random_plan, small_plans, tied_plan, tiny_plan};
+pub use programs::printed;
 pub use queries::{all_queries, dirty_scratch, query, random_queries};
 pub use random::Random;
 pub use reference::smallest;
@@ -32,3 +38,4 @@ pub use runs::{proved_run, RunAnswer, Runs};
 pub use schedules::{
     all_schedules, fitted, in_twos, random_scheduled, staggered, together, Scheduled,
 };
+pub use seeds::seeds_for;

@@ -1,24 +1,26 @@
-//! Asks: the proved answer against all schedules and places of small files, with telling ceilings
-//! and budgets, lent words of many lengths and with dirt in them; every refusal, and damaged files.
+//! Single asks, each a list of its own: the proved answer against all schedules and places of small
+//! files, with telling ceilings and budgets, lent words of many lengths and with dirt in them; every
+//! refusal, and damaged files.
 
 use agree::{
-    asked_plan, dirty_buffers, dirty_table, edited, leave_no_start, proved_ask, replacements,
-    small_plans, smallest, staggered, telling_budgets, telling_ceilings, together, Answers,
-    AskAnswer, AskedFile, Buffers, Random, MOST,
+    asked_plan, dirty_buffers, dirty_table, edited, leave_no_start, many_units, proved_asks,
+    replacements, small_plans, smallest, staggered, telling_budgets, telling_ceilings, together,
+    Answers, AskedFile, Buffers, ListAnswer, Random, MOST,
 };
-use reference::{block_len, encode, example_a, example_a_words, word, Ask, Plan, Refusal, Status};
+use reference::{block_len, encode, example_a, example_a_words, word, Plan, Refusal, Status};
 
 /// Numbers of table words: the fewest, one more, some, the most.
 const TABLES: [usize; 4] = [64, 65, 200, 16_384];
 
-fn ask(ceiling: u32, budget: u32) -> Ask {
-    Ask { ceiling, budget }
+/// The words of an ask.
+fn ask(ceiling: u32, budget: u32) -> [u32; 2] {
+    [word(11, ceiling), word(12, budget)]
 }
 
 /// Words of the given numbers to lend, all alike.
-fn alike(answer: usize, table: usize, scratch: usize) -> Buffers {
+fn alike(answers: usize, table: usize, scratch: usize) -> Buffers {
     Buffers {
-        answer: vec![9; answer],
+        answers: vec![9; answers],
         table: vec![9; table],
         scratch: vec![9; scratch],
     }
@@ -33,16 +35,16 @@ fn one_of(list: &[usize], random: &mut Random) -> usize {
 fn answer(
     answers: &mut Answers,
     file: &mut AskedFile,
-    ask: Ask,
+    ask: [u32; 2],
     tables: &[usize],
     random: &mut Random,
     seed: u64,
 ) -> Status {
     let table = one_of(tables, random);
-    let mut lent = dirty_buffers(file.survey().plan(), table, random);
+    let mut lent = dirty_buffers(file.survey().plan(), 1, table, random);
     let origin = format_args!("table {table}, seed {seed}");
-    let answer = answers.agreed(file, ask, &mut lent, origin);
-    answer.expect("the file is accepted, and the words are enough")
+    let answer = answers.agreed(file, &ask, &mut lent, origin);
+    answer.expect("the file is accepted, and the words are enough")[0]
 }
 
 /// Every telling ceiling with every telling budget, on a random plan for each seed; a failure
@@ -85,9 +87,9 @@ fn block_of(plan: &Plan, ceiling: u32) -> Vec<u32> {
     let mut lent = alike(block_len(plan), 64, 2usize.pow(plan.units));
     let budget = file.survey().places().len().max(1) as u32;
     let origin = format_args!("a worked figure");
-    let answer = answers.agreed(&mut file, ask(ceiling, budget), &mut lent, origin);
+    let answer = answers.agreed(&mut file, &ask(ceiling, budget), &mut lent, origin);
     assert!(answer.is_ok());
-    lent.answer
+    lent.answers
 }
 
 #[test]
@@ -265,15 +267,15 @@ fn the_words_in_the_table_at_entry_have_no_influence() {
         let ceilings = telling_ceilings(file.survey(), &mut random);
         let ask = ask(ceilings[random.place(ceilings.len())], random.within(1, 30));
         let table = one_of(&TABLES, &mut random);
-        let lent = dirty_buffers(file.survey().plan(), table, &mut random);
+        let lent = dirty_buffers(file.survey().plan(), 1, table, &mut random);
         let mut first = lent.clone();
         let origin = format_args!("seed {seed}");
-        let _ = Answers::default().agreed(&mut file, ask, &mut first, origin);
+        let _ = Answers::default().agreed(&mut file, &ask, &mut first, origin);
         for _ in 0..10 {
             let mut again = lent.clone();
             again.table = dirty_table(file.survey().plan(), table, &mut random);
-            assert_eq!(proved_ask(file.words(), ask, &mut again), Ok(()));
-            assert_eq!(again.answer, first.answer, "{ask:?}, {origin}");
+            assert_eq!(proved_asks(file.words(), &ask, &mut again), Ok(()));
+            assert_eq!(again.answers, first.answers, "{ask:?}, {origin}");
             assert_eq!(again.table, first.table, "{ask:?}, {origin}");
         }
     }
@@ -290,14 +292,14 @@ fn what_an_ask_on_another_file_left_in_the_lent_words_changes_no_answer() {
         let plans = [0; 2].map(|_| asked_plan(&mut random, weeks, units));
         let mut files = plans.map(|plan| AskedFile::new(encode(&plan)));
         let table = one_of(&TABLES, &mut random);
-        let mut lent = dirty_buffers(files[0].survey().plan(), table, &mut random);
+        let mut lent = dirty_buffers(files[0].survey().plan(), 1, table, &mut random);
         for _ in 0..10 {
             for file in &mut files {
                 let ceilings = telling_ceilings(file.survey(), &mut random);
                 let ceiling = ceilings[random.place(ceilings.len())];
                 let budget = random.within(1, file.survey().places().len() as u32 + 1);
                 let origin = format_args!("table {table}, seed {seed}");
-                let answer = answers.agreed(file, ask(ceiling, budget), &mut lent, origin);
+                let answer = answers.agreed(file, &ask(ceiling, budget), &mut lent, origin);
                 assert!(answer.is_ok());
             }
         }
@@ -307,18 +309,6 @@ fn what_an_ask_on_another_file_left_in_the_lent_words_changes_no_answer() {
     assert!(answers.got(Status::Best) > 50 && answers.got(Status::Spent) > 50);
 }
 
-/// One permitted start for most units and up to three for every third, so that there are few places
-/// though there are many units.
-fn leave_few_starts(plan: &mut Plan, random: &mut Random) {
-    for unit in 0..plan.units as usize {
-        let last = plan.weeks + 1 - plan.duration[unit];
-        let start = random.within(1, last);
-        let more = if unit % 3 == 2 { 2 } else { 0 };
-        plan.earliest[unit] = start;
-        plan.latest[unit] = last.min(start + more);
-    }
-}
-
 /// Dead ends with more than eight units to blame, and a short table that fills.
 #[test]
 fn some_asks_on_files_with_many_units_agree() {
@@ -326,21 +316,14 @@ fn some_asks_on_files_with_many_units_agree() {
     let mut full = 0;
     for seed in 0..60 {
         let mut random = Random::seeded(seed);
-        let units = random.within(10, 12);
-        let mut plan = asked_plan(&mut random, 8, units);
-        plan.crews = random.within(4, 12);
-        plan.demand
-            .fill(random.within(0, plan.capacity.iter().sum::<u32>() / 2));
-        plan.pairs.truncate(2);
-        plan.duration.fill_with(|| random.within(1, 2));
-        leave_few_starts(&mut plan, &mut random);
+        let plan = many_units(&mut random);
         let mut file = AskedFile::new(encode(&plan));
         for ceiling in telling_ceilings(file.survey(), &mut random) {
             let budgets = telling_budgets(file.survey(), &mut random);
             let budget = budgets[random.place(budgets.len())];
-            let mut lent = dirty_buffers(file.survey().plan(), 64, &mut random);
+            let mut lent = dirty_buffers(file.survey().plan(), 1, 64, &mut random);
             let origin = format_args!("seed {seed}");
-            let answer = answers.agreed(&mut file, ask(ceiling, budget), &mut lent, origin);
+            let answer = answers.agreed(&mut file, &ask(ceiling, budget), &mut lent, origin);
             assert!(answer.is_ok());
             // fewer words are left below the last 32 than a conflict of eight choices takes
             full += usize::from(lent.table[64 - 32 - 9] != 0);
@@ -367,7 +350,7 @@ fn the_largest_files_with_one_start_for_each_unit_agree() {
             for budget in [1, 2, 15, 16, 17, MOST] {
                 let mut lent = alike(block_len(&plan) + 1, 16_384, 65_536);
                 let ask = ask(ceiling, budget);
-                let answer = answers.agreed(&mut file, ask, &mut lent, format_args!("16 units"));
+                let answer = answers.agreed(&mut file, &ask, &mut lent, format_args!("16 units"));
                 assert!(answer.is_ok());
             }
         }
@@ -376,7 +359,7 @@ fn the_largest_files_with_one_start_for_each_unit_agree() {
     assert!(answers.got(Status::Plan) >= 12 && answers.got(Status::None) >= 12);
 }
 
-/// Every combination of a good or bad file, ceiling, budget, table, answer and scratch: the refusal
+/// Every combination of a good or bad file, ceiling, budget, table, answers and scratch: the refusal
 /// is that of the first in the list.
 #[test]
 fn every_refusal_comes_in_its_order() {
@@ -388,18 +371,25 @@ fn every_refusal_comes_in_its_order() {
         words[..7].to_vec(),
         [&words[..], &[7]].concat(),
     ];
+    let ceilings = [
+        (11, 0),
+        (11, 100),
+        (11, MOST),
+        (12, 1),
+        (0, 100),
+        (15, MOST),
+    ];
+    let budgets = [(12, 0), (12, 1), (12, MOST), (11, 0), (13, 1), (15, MOST)];
     for mut file in files.map(AskedFile::new) {
-        for ceiling in [0, 100, MOST, MOST + 1, 1 << 31, u32::MAX] {
-            for budget in [0, 1, MOST, MOST + 1, 12 << 28 | 1, u32::MAX] {
-                for table in [0, 63, 64, 65, 16_384, 16_385] {
-                    for (answer, scratch) in pairs_of(&[0, 8, 9, 10], &[0, 3, 4, 5]) {
-                        let mut lent = alike(answer, table, scratch);
-                        let ask = ask(ceiling, budget);
-                        let origin = format_args!("{answer}, {table}, {scratch} lent");
-                        let said = answers.agreed(&mut file, ask, &mut lent, origin);
-                        answered += usize::from(said.is_ok());
-                        calls += 1;
-                    }
+        for (ceiling, budget) in pairs_of(&ceilings, &budgets) {
+            let ask = [ceiling, budget].map(|(kind, value)| word(kind, value));
+            for table in [0, 63, 64, 65, 16_384, 16_385] {
+                for (answer, scratch) in pairs_of(&[0, 8, 9, 10], &[0, 3, 4, 5]) {
+                    let mut lent = alike(answer, table, scratch);
+                    let origin = format_args!("{answer}, {table}, {scratch} lent");
+                    let said = answers.agreed(&mut file, &ask, &mut lent, origin);
+                    answered += usize::from(said.is_ok());
+                    calls += 1;
                 }
             }
         }
@@ -411,38 +401,44 @@ fn every_refusal_comes_in_its_order() {
 }
 
 /// Each of the first with each of the second.
-fn pairs_of(first: &[usize], second: &[usize]) -> Vec<(usize, usize)> {
-    let with = |&a: &usize| second.iter().map(move |&b| (a, b));
+fn pairs_of<T: Copy>(first: &[T], second: &[T]) -> Vec<(T, T)> {
+    let with = |&a: &T| second.iter().map(move |&b| (a, b));
     first.iter().flat_map(with).collect()
 }
 
 /// Each cause alone, with its place.
 #[test]
 fn every_cause_alone_is_refused_with_its_number_and_place() {
-    let said = |words: &[u32], ask, (answer, table, scratch)| -> AskAnswer {
+    let said = |words: &[u32], ask: &[u32], (answer, table, scratch)| -> ListAnswer {
         let (mut answers, mut file) = (Answers::default(), AskedFile::new(words.to_vec()));
         let mut lent = alike(answer, table, scratch);
         answers.agreed(&mut file, ask, &mut lent, format_args!("one cause"))
     };
     let refused = |number, place| Err(Refusal { number, place });
-    let (words, enough) = (example_a_words(), (9, 64, 4));
-    assert_eq!(said(&words, ask(100, 12), enough), Ok(Status::Plan));
-    assert_eq!(said(&words[..20], ask(100, 12), enough), refused(1, 20));
+    let (words, good, enough) = (example_a_words(), ask(100, 12), (9, 64, 4));
+    assert_eq!(said(&words, &good, enough), Ok(vec![Status::Plan]));
+    assert_eq!(said(&words[..20], &good, enough), refused(1, 20));
     let longer = [&words[..], &[word(11, 100)]].concat();
-    assert_eq!(said(&longer, ask(100, 12), enough), refused(7, 25));
-    for above in [1 << 28, 11 << 28 | 100, u32::MAX] {
-        assert_eq!(said(&words, ask(above, 12), enough), refused(9, 0));
-        assert_eq!(said(&words, ask(100, above), enough), refused(9, 1));
+    assert_eq!(said(&longer, &good, enough), refused(7, 25));
+    for kind in 0..16 {
+        let (ceiling, budget) = ([word(kind, 100), good[1]], [good[0], word(kind, 12)]);
+        let (as_ceiling, as_budget) = (kind == 11, kind == 12);
+        let verdict = |right: bool, place| match right {
+            true => Ok(vec![Status::Plan]),
+            false => refused(9, place),
+        };
+        assert_eq!(said(&words, &ceiling, enough), verdict(as_ceiling, 0));
+        assert_eq!(said(&words, &budget, enough), verdict(as_budget, 1));
     }
-    assert_eq!(said(&words, ask(100, 0), enough), refused(10, 1));
+    assert_eq!(said(&words, &ask(100, 0), enough), refused(10, 1));
     for table in [0, 1, 63, 16_385, 65_536] {
-        assert_eq!(said(&words, ask(100, 12), (9, table, 4)), refused(13, 0));
+        assert_eq!(said(&words, &good, (9, table, 4)), refused(13, 0));
     }
     for answer in 0..9 {
-        assert_eq!(said(&words, ask(100, 12), (answer, 64, 4)), refused(14, 0));
+        assert_eq!(said(&words, &good, (answer, 64, 4)), refused(14, 0));
     }
     for scratch in 0..4 {
-        assert_eq!(said(&words, ask(100, 12), (9, 64, scratch)), refused(15, 0));
+        assert_eq!(said(&words, &good, (9, 64, scratch)), refused(15, 0));
     }
 }
 
@@ -463,12 +459,12 @@ fn lent_words_just_enough_or_one_fewer_are_told_apart() {
         ) {
             let mut lent = alike(answer, 64, scratch);
             let origin = format_args!("{units} units, {answer} and {scratch} lent");
-            let said = answers.agreed(&mut file, ask(0, 17), &mut lent, origin);
+            let said = answers.agreed(&mut file, &ask(0, 17), &mut lent, origin);
             let number = said.map_err(|refusal| refusal.number);
             let expected = match (answer < block, scratch < sets) {
                 (true, _) => Err(14),
                 (_, true) => Err(15),
-                _ => Ok(Status::Plan),
+                _ => Ok(vec![Status::Plan]),
             };
             assert_eq!(number, expected);
         }
@@ -490,7 +486,7 @@ fn every_single_word_damage_of_small_files_agrees() {
                 let mut lent = alike(block_len(plan) + 2, 64, 16);
                 let ask = ask(random.edgy(0, MOST), random.within(1, 20));
                 let origin = format_args!("word {place} replaced by {new:#x}");
-                let _ = answers.agreed(&mut file, ask, &mut lent, origin);
+                let _ = answers.agreed(&mut file, &ask, &mut lent, origin);
             }
         }
     }
@@ -508,7 +504,7 @@ fn files_cut_short_or_too_long_are_refused() {
             let (mut answers, mut file) = (Answers::default(), AskedFile::new(words.to_vec()));
             // nothing else is in order either, and the file comes first
             let mut lent = alike(1, 1, 1);
-            answers.agreed(&mut file, ask(MOST + 1, 0), &mut lent, format_args!("cut"))
+            answers.agreed(&mut file, &[0; 3], &mut lent, format_args!("cut"))
         };
         for length in 0..words.len() {
             assert_eq!(said(&words[..length]), refused(1, length));
@@ -526,9 +522,9 @@ fn files_with_several_words_edited_agree() {
         let plan = asked_plan(&mut random, 3, 2);
         let words = edited(&encode(&plan), &plan, &mut random);
         let mut file = AskedFile::new(words);
-        let mut lent = dirty_buffers(&plan, one_of(&TABLES, &mut random), &mut random);
+        let mut lent = dirty_buffers(&plan, 1, one_of(&TABLES, &mut random), &mut random);
         let asked = ask(random.edgy(0, MOST), random.edgy(0, 40));
-        let _ = answers.agreed(&mut file, asked, &mut lent, format_args!("seed {seed}"));
+        let _ = answers.agreed(&mut file, &asked, &mut lent, format_args!("seed {seed}"));
     }
     answers.report("several words of the file edited");
     assert_eq!(answers.refusals(), [1, 2, 3, 4, 6, 7, 10]);
@@ -548,13 +544,16 @@ fn any_numbers_of_lent_words_agree() {
             random.words(length)
         };
         let mut lent = Buffers {
-            answer: around(block_len(&plan)),
+            answers: around(block_len(&plan)),
             table: around([64, 66, 16_384][seed as usize % 3]),
             scratch: around(2usize.pow(units)),
         };
-        let asked = ask(random.edgy(0, MOST + 1), random.within(0, 30));
+        let mut asked = ask(random.edgy(0, MOST), random.within(0, 30));
+        if random.once_in(5) {
+            asked[random.place(2)] = random.word();
+        }
         let mut file = AskedFile::new(encode(&plan));
-        let _ = answers.agreed(&mut file, asked, &mut lent, format_args!("seed {seed}"));
+        let _ = answers.agreed(&mut file, &asked, &mut lent, format_args!("seed {seed}"));
     }
     answers.report("any numbers of lent words");
     assert_eq!(answers.refusals(), [9, 10, 13, 14, 15]);

@@ -1,37 +1,20 @@
 //! The judge program against the reference: the one line that it prints for a file and a grid, for
 //! damaged ones, and for inputs that are cut short or too long.
 
-use agree::{breaches, random_scheduled, smallest, staggered, together, Random};
+use agree::{breaches, printed, random_scheduled, smallest, staggered, together, Random};
 use reference::{bytes_of, encode, example_a_words, judge_input, word, Plan, MAINT, OFF, ON};
-use std::io::{ErrorKind, Write};
-use std::path::Path;
-use std::process::{Command, Stdio};
 
 /// The line that the program prints, without its line feed; panics where the reference has another.
 fn agreed(input: &[u8]) -> String {
     let line = judge_input(input).to_string();
     let (count, first) = (input.len(), &input[..input.len().min(120)]);
     let whole = format!("{line}\n");
-    assert_eq!(printed(input), whole, "{count} bytes, first {first:?}");
+    assert_eq!(
+        printed("judge", input),
+        Ok(whole),
+        "{count} bytes, first {first:?}"
+    );
     line
-}
-
-/// What the program prints. It may end before it has read an input of more than 32,768 bytes.
-fn printed(input: &[u8]) -> String {
-    let program = Path::new(env!("CARGO_MANIFEST_DIR")).join("../../target/bin/judge");
-    let mut child = Command::new(&program)
-        .stdin(Stdio::piped())
-        .stdout(Stdio::piped())
-        .spawn()
-        .unwrap_or_else(|error| panic!("`rt check judge` writes {}: {error}", program.display()));
-    let mut stdin = child.stdin.take().expect("standard input is a pipe");
-    if let Err(error) = stdin.write_all(input) {
-        assert_eq!(error.kind(), ErrorKind::BrokenPipe, "{error}");
-    }
-    drop(stdin);
-    let output = child.wait_with_output().expect("the program ends");
-    assert!(output.status.code().is_some(), "ended by a signal");
-    String::from_utf8(output.stdout).expect("the line is text")
 }
 
 /// The program's input for a file and a grid.

@@ -1,11 +1,12 @@
-//! Asks under an open ceiling on generated instances, the proved call beside the plain twin: what a
-//! try takes, then the same as the season gets longer, and as the table of conflicts does.
+//! Asks under an open ceiling on generated instances, each a list of its own, the proved call beside
+//! the plain twin: what a try takes, then the same as the season gets longer, and as the table of
+//! conflicts does.
 
 use crate::generated::Scheme;
 use crate::plain_ask::{self, Effort};
 use crate::table;
 use crate::timing::Times;
-use reference::{block_len, encode, Plan};
+use reference::{block_len, encode, word, Plan};
 use std::hint::black_box;
 
 /// A ceiling that no schedule is above.
@@ -230,7 +231,8 @@ fn proved(words: &[u32], ceiling: u32, budget: u32, lent: &mut Lent) {
         table,
         scratch,
     } = lent;
-    ffi::ask(words, ceiling, budget, answer, table, scratch).expect("accepted");
+    let ask = [word(11, ceiling), word(12, budget)];
+    ffi::run(words, &ask, answer, table, scratch).expect("accepted");
 }
 
 fn plain(words: &[u32], ceiling: u32, budget: u32, lent: &mut Lent) -> Effort {
@@ -239,7 +241,8 @@ fn plain(words: &[u32], ceiling: u32, budget: u32, lent: &mut Lent) -> Effort {
         table,
         scratch,
     } = lent;
-    plain_ask::ask(words, ceiling, budget, answer, table, scratch).expect("accepted")
+    let ask = [word(11, ceiling), word(12, budget)];
+    plain_ask::ask(words, &ask, answer, table, scratch).expect("accepted")
 }
 
 /// What the twin took; panics unless the proved call leaves the same block and the same table,

@@ -9,8 +9,10 @@ use crate::plain::{self, VALUE};
 use crate::plain_week::{self, NO_RUN};
 use reference::Refusal;
 
-/// The first value that no ask word has.
-const VALUES: u32 = 1 << 28;
+/// The kind of an ask's first word, its ceiling.
+const CEILING: u32 = 11;
+/// The kind of its second word, its budget.
+const BUDGET: u32 = 12;
 /// The kind of a conflict's first word, its bound.
 const BOUND: u32 = 13;
 /// The kind of the words after it, its choices.
@@ -38,22 +40,23 @@ pub struct Effort {
     pub misses: u64,
 }
 
-/// Answers one ask in the lent words, as the proved call does, and says what it took.
+/// Answers one ask in the lent words, as the proved call does for a list of it alone, and says what
+/// it took.
 #[inline(never)]
 pub fn ask(
     words: &[u32],
-    ceiling: u32,
-    budget: u32,
+    ask: &[u32; 2],
     answer: &mut [u32],
     table: &mut [u32],
     scratch: &mut [u32],
 ) -> Result<Effort, Refusal> {
     plain::read(words)?;
     let file = File::new(words);
-    accept_ask(ceiling, budget)?;
+    accept_ask(ask)?;
     file.accept_lent(answer.len(), table.len(), scratch.len())?;
     table.fill(0);
     scratch.fill(0);
+    let [ceiling, budget] = ask.map(|word| word & VALUE);
     let mut walk = Walk::new(&file, ceiling, budget, table, scratch);
     let ended = walk.run();
     if ended.is_ok() {
@@ -64,15 +67,17 @@ pub fn ask(
 }
 
 /// The refusals of an ask's own words.
-fn accept_ask(ceiling: u32, budget: u32) -> Result<(), Refusal> {
-    if ceiling >= VALUES {
+fn accept_ask(ask: &[u32; 2]) -> Result<(), Refusal> {
+    if ask[0] >> 28 != CEILING {
         return plain::refuse(9, 0);
     }
-    match budget {
-        0 => plain::refuse(10, 1),
-        VALUES.. => plain::refuse(9, 1),
-        _ => Ok(()),
+    if ask[1] >> 28 != BUDGET {
+        return plain::refuse(9, 1);
     }
+    if ask[1] & VALUE == 0 {
+        return plain::refuse(10, 1);
+    }
+    Ok(())
 }
 
 /// What the walk reads of an accepted file.
@@ -504,11 +509,8 @@ impl<'a> Memo<'a> {
 mod tests {
     use super::ask;
     use crate::generated::small_plan;
-    use reference::{
-        accept, block_len, check_block, check_final, conflicts, encode, is_true, Ask, Lent, Plan,
-        Status, Survey,
-    };
-    use std::collections::BTreeMap;
+    use reference::{accept, block_len, check_run, encode, word, Ask, Lent, Plan, Status, Survey};
+    use std::collections::{BTreeMap, BTreeSet};
 
     /// The largest ceiling and the largest budget.
     const MOST: u32 = (1 << 28) - 1;
@@ -518,28 +520,16 @@ mod tests {
         let plan = survey.plan();
         let (length, mut table) = (block_len(plan), vec![7; table]);
         let (mut answer, mut scratch) = (vec![7; length + 1], vec![7; 1 << plan.units]);
-        let (ceiling, budget) = (asked.ceiling, asked.budget);
-        let words = encode(plan);
-        let effort = ask(
-            &words,
-            ceiling,
-            budget,
-            &mut answer,
-            &mut table,
-            &mut scratch,
-        );
+        let words = [word(11, asked.ceiling), word(12, asked.budget)];
+        let effort = ask(&encode(plan), &words, &mut answer, &mut table, &mut scratch);
         let tries = effort.expect("the file and the ask are accepted").tries;
         let told = format!("{asked:?}, block {answer:?}, seed {seed}");
-        let status = check_block(survey, asked, &answer[..length]).expect(&told);
-        let found = conflicts(plan, &table).expect(&told);
-        check_final(asked, status, answer[1], &found).expect(&told);
-        assert!(
-            found.iter().all(|conflict| is_true(survey, conflict)),
-            "{told}"
-        );
+        let (block, known) = (&answer[..length], &mut BTreeSet::new());
+        let found = check_run(survey, &[asked], block, &table, known).expect(&told);
+        let status = found.statuses[0];
         let spent = matches!(status, Status::Best | Status::Spent);
         assert!(
-            tries == budget || tries < budget && !spent,
+            tries == asked.budget || tries < asked.budget && !spent,
             "{tries} tries, {told}"
         );
         assert_eq!(answer[length], 7, "beyond the block, {told}");
@@ -575,7 +565,7 @@ mod tests {
     /// The numbers of words that are just enough for a plan.
     fn enough(plan: &Plan) -> Lent {
         Lent {
-            answer: block_len(plan),
+            answers: block_len(plan),
             table: 64,
             scratch: 1 << plan.units,
         }
@@ -583,16 +573,13 @@ mod tests {
 
     /// Panics unless the twin refuses, or answers, as the reference says; refused, it changes none
     /// of the lent words.
-    fn check_refusal(words: &[u32], ceiling: u32, budget: u32, lent: Lent) {
-        let expected = accept(words, Ask { ceiling, budget }, lent).map(|_| ());
-        let before = [lent.answer, lent.table, lent.scratch].map(|length| vec![7; length]);
+    fn check_refusal(words: &[u32], asked: &[u32; 2], lent: Lent) {
+        let expected = accept(words, asked, lent).map(|_| ());
+        let before = [lent.answers, lent.table, lent.scratch].map(|length| vec![7; length]);
         let mut words_lent = before.clone();
         let [answer, table, scratch] = &mut words_lent;
-        let got = ask(words, ceiling, budget, answer, table, scratch).map(|_| ());
-        assert_eq!(
-            got, expected,
-            "ceiling {ceiling}, budget {budget}, {lent:?}"
-        );
+        let got = ask(words, asked, answer, table, scratch).map(|_| ());
+        assert_eq!(got, expected, "{asked:?}, {lent:?}");
         assert!(got.is_ok() || words_lent == before, "{expected:?}");
     }
 
@@ -600,16 +587,17 @@ mod tests {
     fn refusals_are_those_of_the_reference() {
         let plan = small_plan(30);
         let (words, lent) = (encode(&plan), enough(&plan));
-        for ceiling in [0, MOST, MOST + 1, u32::MAX] {
-            for budget in [0, 1, MOST, MOST + 1, u32::MAX] {
+        for ceiling in [word(11, 0), word(11, MOST), word(12, 1), 0, u32::MAX] {
+            for budget in [word(12, 0), word(12, 1), word(12, MOST), word(11, 0), 1] {
+                let asked = [ceiling, budget];
                 for table in [63, 64, 16_384, 16_385] {
-                    check_refusal(&words, ceiling, budget, Lent { table, ..lent });
+                    check_refusal(&words, &asked, Lent { table, ..lent });
                 }
-                let answer = lent.answer - 1;
-                check_refusal(&words, ceiling, budget, Lent { answer, ..lent });
+                let answers = lent.answers - 1;
+                check_refusal(&words, &asked, Lent { answers, ..lent });
                 let scratch = lent.scratch - 1;
-                check_refusal(&words, ceiling, budget, Lent { scratch, ..lent });
-                check_refusal(&words[1..], ceiling, budget, lent);
+                check_refusal(&words, &asked, Lent { scratch, ..lent });
+                check_refusal(&words[1..], &asked, lent);
             }
         }
     }

@@ -73,26 +73,26 @@ mod c {
             unit: usize,
             start: usize,
         ) -> u64;
-        /// The refusal's number, 0 where the ask is answered.
-        pub fn novelbrisca_ask(
+        /// The refusal's number, 0 where the asks are answered.
+        pub fn novelbrisca_run(
             words: *const u32,
             words_len: usize,
-            ceiling: u32,
-            budget: u32,
-            answer: *mut u32,
-            answer_len: usize,
+            asks: *const u32,
+            asks_len: usize,
+            answers: *mut u32,
+            answers_len: usize,
             table: *mut u32,
             table_len: usize,
             scratch: *mut u32,
             scratch_len: usize,
         ) -> u32;
-        /// The refusal's place, 0 where the ask is answered; lent memory by its numbers of words.
-        pub fn novelbrisca_ask_place(
+        /// The refusal's place, 0 where the asks are answered; lent memory by its numbers of words.
+        pub fn novelbrisca_run_place(
             words: *const u32,
             words_len: usize,
-            ceiling: u32,
-            budget: u32,
-            answer: usize,
+            asks: *const u32,
+            asks_len: usize,
+            answers: usize,
             table: usize,
             scratch: usize,
         ) -> usize;
@@ -291,50 +291,64 @@ pub fn upkeep(words: &[u32], unit: usize, start: usize) -> Result<Option<u64>, R
     given(code, words).map(|code| code.map(cost))
 }
 
-/// Answers one ask, a ceiling and a budget of tries: writes its block into the first words of
-/// `answer`, and those beyond are kept; leaves conflicts in `table`, and 0 elsewhere. `table` and
-/// `scratch` have any content before, and `scratch` any afterwards. Refused (1 to 7, then 9 or 10
-/// for the ask's own words, then 13 to 15): every lent word is kept.
-pub fn ask(
+/// Answers a list of asks, whose words are a ceiling and a budget of tries for each: writes their
+/// blocks one after the other into the first words of `answers`, and those beyond are kept; leaves
+/// conflicts in `table`, and 0 after them. `table` and `scratch` have any content before, and
+/// `scratch` any afterwards. Refused (1 to 7, then 8 to 10 for the ask words, then 13 to 15): every
+/// lent word is kept. A refusal takes a second call, for its place.
+pub fn run(
     words: &[u32],
-    ceiling: u32,
-    budget: u32,
-    answer: &mut [u32],
+    asks: &[u32],
+    answers: &mut [u32],
     table: &mut [u32],
     scratch: &mut [u32],
 ) -> Result<(), Refusal> {
-    // SAFETY: each pair of pointer and length is that of a live slice, `answer`, `table` and
+    // SAFETY: each pair of pointer and length is that of a live slice, `answers`, `table` and
     // `scratch` uniquely lent.
     let number = unsafe {
-        c::novelbrisca_ask(
+        c::novelbrisca_run(
             words.as_ptr(),
             words.len(),
-            ceiling,
-            budget,
-            answer.as_mut_ptr(),
-            answer.len(),
+            asks.as_ptr(),
+            asks.len(),
+            answers.as_mut_ptr(),
+            answers.len(),
             table.as_mut_ptr(),
             table.len(),
             scratch.as_mut_ptr(),
             scratch.len(),
         )
     };
-    if number == 0 {
-        return Ok(());
+    match number {
+        0 => Ok(()),
+        _ => Err(Refusal {
+            number,
+            place: run_place(words, asks, answers.len(), table.len(), scratch.len()),
+        }),
     }
-    // SAFETY: pointer and length are those of a live slice.
-    let place = unsafe {
-        c::novelbrisca_ask_place(
+}
+
+/// The place that belongs to the refusal of a run with so many lent words; 0 where its asks are
+/// answered.
+pub fn run_place(
+    words: &[u32],
+    asks: &[u32],
+    answers: usize,
+    table: usize,
+    scratch: usize,
+) -> usize {
+    // SAFETY: both pairs of pointer and length are those of live slices, which are only read.
+    unsafe {
+        c::novelbrisca_run_place(
             words.as_ptr(),
             words.len(),
-            ceiling,
-            budget,
-            answer.len(),
-            table.len(),
-            scratch.len(),
+            asks.as_ptr(),
+            asks.len(),
+            answers,
+            table,
+            scratch,
         )
-    };
-    Err(Refusal { number, place })
+    }
 }
 
 /// What a code gives: a number below 2^62, none, or the refusal of the file's words.

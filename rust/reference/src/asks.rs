@@ -1,13 +1,15 @@
-//! One ask: for what it is refused, and whether the block that answers it is right. Which answer is
-//! due is open where the budget is below the number of places, so a block is held against what
-//! document 01 says of its own status and mark.
+//! Lists of asks: their words, and for what a run of them on a file in lent memory is refused.
 
-use crate::survey::{Schedule, Survey};
+use crate::block::block_len;
+use crate::words::{kind_of, value_of, word};
 use crate::{read, Plan, Refusal};
-use std::fmt::Debug;
 
-/// The first value that no ask word has.
-const VALUES: u32 = 1 << 28;
+/// The kind of a ceiling's word.
+const CEILING: u32 = 11;
+/// The kind of a budget's word.
+const BUDGET: u32 = 12;
+/// The most words that a list of asks has.
+const MOST_ASK_WORDS: usize = 64;
 
 /// An ask.
 #[derive(Clone, Copy, Debug, PartialEq, Eq)]
@@ -18,151 +20,66 @@ pub struct Ask {
     pub budget: u32,
 }
 
-/// How many words are lent to an ask.
+/// How many words are lent to a run.
 #[derive(Clone, Copy, Debug, PartialEq, Eq)]
 pub struct Lent {
-    /// Words for the block.
-    pub answer: usize,
+    /// Words for the blocks.
+    pub answers: usize,
     /// Words for conflicts.
     pub table: usize,
     /// Words for anything.
     pub scratch: usize,
 }
 
-/// The status of a block.
-#[derive(Clone, Copy, Debug, PartialEq, Eq, PartialOrd, Ord)]
-pub enum Status {
-    /// 1: the earliest of the cheapest schedules at or below the ceiling.
-    Plan,
-    /// 2: there is no schedule at or below the ceiling.
-    None,
-    /// 3: spent, with the earliest of the cheapest before the mark.
-    Best,
-    /// 4: spent, with nothing before the mark.
-    Spent,
+/// The words of a list of asks: a ceiling and a budget for each. It tests no number of asks and no
+/// budget, so that tests can also write lists that are to be refused.
+pub fn ask_words(asks: &[Ask]) -> Vec<u32> {
+    asks.iter()
+        .flat_map(|ask| [word(CEILING, ask.ceiling), word(BUDGET, ask.budget)])
+        .collect()
 }
 
-/// The plan of a file on which the ask is answered; else the refusal: the file's, then those of the
-/// ask's words, the ceiling first, then those of the lent words in number order.
-pub fn accept(words: &[u32], ask: Ask, lent: Lent) -> Result<Plan, Refusal> {
+/// The plan and the asks of a run that is answered; else the refusal: the file's, then that of the
+/// ask words, then those of the lent words in number order.
+pub fn accept(words: &[u32], asks: &[u32], lent: Lent) -> Result<(Plan, Vec<Ask>), Refusal> {
     let plan = read(words)?;
+    let asks = read_asks(asks)?;
     let causes = [
-        // a number above 28 bits makes a word of another kind
-        (ask.ceiling >= VALUES, 9, 0),
-        (ask.budget >= VALUES, 9, 1),
-        (ask.budget == 0, 10, 1),
-        (lent.table < 64 || lent.table > 16_384, 13, 0),
-        (lent.answer < block_len(&plan), 14, 0),
-        (lent.scratch < 2usize.pow(plan.units), 15, 0),
+        (lent.table < 64 || lent.table > 16_384, 13),
+        (lent.answers < asks.len() * block_len(&plan), 14),
+        (lent.scratch < 2usize.pow(plan.units), 15),
     ];
-    match causes.into_iter().find(|&(stands, _, _)| stands) {
-        Some((_, number, place)) => Err(Refusal { number, place }),
-        None => Ok(plan),
+    match causes.into_iter().find(|&(stands, _)| stands) {
+        Some((_, number)) => Err(Refusal { number, place: 0 }),
+        None => Ok((plan, asks)),
     }
 }
 
-/// The number of words in a block of a plan.
-pub fn block_len(plan: &Plan) -> usize {
-    (2 + 2 * plan.units + plan.weeks) as usize
-}
-
-/// The status of a block that answers the ask on the survey's plan rightly; else what is wrong.
-pub fn check_block(survey: &Survey, ask: Ask, block: &[u32]) -> Result<Status, String> {
-    let due = block_len(survey.plan());
-    same("words", block.len(), due)?;
-    match block[0] {
-        1 => check_plan(survey, ask, block).map(|()| Status::Plan),
-        2 => check_none(survey, ask, block).map(|()| Status::None),
-        3 | 4 => check_spent(survey, ask, block),
-        other => Err(format!("there is no status {other}")),
+/// The asks that a list of words says: its length is tested, then word by word the kind and, of a
+/// budget, that it is not 0. A place counts in this list.
+pub fn read_asks(words: &[u32]) -> Result<Vec<Ask>, Refusal> {
+    let length = words.len();
+    if length == 0 || !length.is_multiple_of(2) || length > MOST_ASK_WORDS {
+        return Err(Refusal {
+            number: 8,
+            place: 0,
+        });
     }
-}
-
-/// The earliest of the cheapest and no mark.
-fn check_plan(survey: &Survey, ask: Ask, block: &[u32]) -> Result<(), String> {
-    match survey.cheapest(ask.ceiling) {
-        None => Err("a plan where no schedule is at or below the ceiling".to_string()),
-        Some(cheapest) => {
-            same_schedule(survey.plan(), cheapest, block)?;
-            no_mark(survey.plan(), block)
-        }
+    let mut asks = vec![];
+    for (pair, both) in words.chunks(2).enumerate() {
+        asks.push(Ask {
+            ceiling: ask_value(both[0], CEILING, 2 * pair)?,
+            budget: ask_value(both[1], BUDGET, 2 * pair + 1)?,
+        });
     }
+    Ok(asks)
 }
 
-/// No schedule at or below the ceiling, and nothing but the status.
-fn check_none(survey: &Survey, ask: Ask, block: &[u32]) -> Result<(), String> {
-    if let Some(cheapest) = survey.cheapest(ask.ceiling) {
-        return Err(format!("none where there is {cheapest:?}"));
+/// The value of an ask word, which has to be of the kind due, and not 0 where that is a budget's.
+fn ask_value(word: u32, due: u32, place: usize) -> Result<u32, Refusal> {
+    match (kind_of(word), value_of(word)) {
+        (BUDGET, 0) if due == BUDGET => Err(Refusal { number: 10, place }),
+        (kind, value) if kind == due => Ok(value),
+        _ => Err(Refusal { number: 9, place }),
     }
-    no_schedule(survey.plan(), block)?;
-    no_mark(survey.plan(), block)
-}
-
-/// A mark of rank at least the budget, and the earliest of the cheapest before it or nothing.
-fn check_spent(survey: &Survey, ask: Ask, block: &[u32]) -> Result<Status, String> {
-    let mark = mark_of(survey.plan(), block);
-    let place = without_missing(mark);
-    match survey.rank(place) {
-        None => return Err(format!("the mark {mark:?} is no place")),
-        Some(rank) if rank < ask.budget as usize => {
-            return Err(format!("the mark {mark:?} has rank {rank}"));
-        }
-        Some(_) => {}
-    }
-    match (block[0], survey.cheapest_before(place, ask.ceiling)) {
-        (3, Some(best)) => same_schedule(survey.plan(), best, block).map(|()| Status::Best),
-        (3, None) => Err(format!("a best where none is before {mark:?}")),
-        (_, Some(best)) => Err(format!("spent where {best:?} is before {mark:?}")),
-        (_, None) => no_schedule(survey.plan(), block).map(|()| Status::Spent),
-    }
-}
-
-/// The starts in a block.
-pub fn starts_of<'a>(plan: &Plan, block: &'a [u32]) -> &'a [u32] {
-    &block[2..2 + plan.units as usize]
-}
-
-/// The run numbers in a block.
-pub fn runs_of<'a>(plan: &Plan, block: &'a [u32]) -> &'a [u32] {
-    let first = 2 + plan.units as usize;
-    &block[first..first + plan.weeks as usize]
-}
-
-/// The words of mark in a block.
-pub fn mark_of<'a>(plan: &Plan, block: &'a [u32]) -> &'a [u32] {
-    &block[block_len(plan) - plan.units as usize..]
-}
-
-/// The starts of a mark up to those that are missing, which are 0. No permitted start is 0, so a
-/// mark with a 0 before another start stays what it is, and is no place.
-fn without_missing(mark: &[u32]) -> &[u32] {
-    let last = mark.iter().rposition(|&start| start != 0);
-    &mark[..last.map_or(0, |last| last + 1)]
-}
-
-/// The block has the schedule, its cost included.
-fn same_schedule(plan: &Plan, schedule: &Schedule, block: &[u32]) -> Result<(), String> {
-    same("cost", u64::from(block[1]), schedule.cost)?;
-    same("starts", starts_of(plan, block), &schedule.starts)?;
-    same("runs", runs_of(plan, block), &schedule.runs)
-}
-
-/// The block has no schedule, and no cost.
-fn no_schedule(plan: &Plan, block: &[u32]) -> Result<(), String> {
-    same("cost", block[1], 0)?;
-    let (units, weeks) = (plan.units as usize, plan.weeks as usize);
-    same("starts", starts_of(plan, block), &vec![0; units])?;
-    same("runs", runs_of(plan, block), &vec![0; weeks])
-}
-
-fn no_mark(plan: &Plan, block: &[u32]) -> Result<(), String> {
-    same("mark", mark_of(plan, block), &vec![0; plan.units as usize])
-}
-
-/// What is said where a part of the block is not the one due.
-fn same<T: PartialEq + Debug>(part: &str, found: T, due: T) -> Result<(), String> {
-    if found == due {
-        return Ok(());
-    }
-    Err(format!("{part} {found:?} where {due:?} is due"))
 }

@@ -1,10 +1,10 @@
-//! The conflicts that an ask leaves in the lent table: how they are laid out, whether they are
-//! true, and which of them have to be there.
+//! The conflicts that a run of asks leaves in the lent table: how they are laid out, whether they
+//! are true, and which of them have to be there.
 
-use crate::asks::{Ask, Status};
 use crate::survey::Survey;
 use crate::words::{kind_of, value_of};
 use crate::{permitted_starts, Plan};
+use std::collections::BTreeSet;
 
 /// The most choices that a conflict has.
 const MOST_CHOICES: usize = 8;
@@ -20,29 +20,32 @@ pub struct Conflict {
     pub choices: Vec<(u32, u32)>,
 }
 
-/// The conflicts in a table's words; else what is wrong with the words: a bound, its choices after
-/// it, and 0 where there is no conflict, which may also be between two of them.
+/// The conflicts in a table's words; else what is wrong with the words: from the first word on a
+/// bound, its choices after it, then the next conflict, and only 0 after the last.
 pub fn conflicts(plan: &Plan, table: &[u32]) -> Result<Vec<Conflict>, String> {
     let mut found = vec![];
     let mut place = 0;
-    while place < table.len() {
-        match (kind_of(table[place]), value_of(table[place])) {
-            (0, 0) => place += 1,
-            (13, bound) => {
-                let choices = choices_from(table, place + 1);
-                let end = place + 1 + choices.len();
-                let conflict = Conflict { bound, choices };
-                laid_out(plan, &conflict).map_err(|reason| format!("{reason}, at {place}"))?;
-                if !conflict.choices.is_empty() && end + KEPT_FREE > table.len() {
-                    return Err(format!("{conflict:?} ends in the last words, at {place}"));
-                }
-                found.push(conflict);
-                place = end;
-            }
-            (kind, value) => return Err(format!("{kind}:{value} in no conflict, at {place}")),
+    while place < table.len() && kind_of(table[place]) == 13 {
+        let conflict = Conflict {
+            bound: value_of(table[place]),
+            choices: choices_from(table, place + 1),
+        };
+        let end = place + 1 + conflict.choices.len();
+        laid_out(plan, &conflict).map_err(|reason| format!("{reason}, at {place}"))?;
+        if !conflict.choices.is_empty() && end + KEPT_FREE > table.len() {
+            return Err(format!("{conflict:?} ends in the last words, at {place}"));
+        }
+        found.push(conflict);
+        place = end;
+    }
+    match table[place..].iter().position(|&word| word != 0) {
+        None => Ok(found),
+        Some(more) => {
+            let (at, word) = (place + more, table[place + more]);
+            let (kind, value) = (kind_of(word), value_of(word));
+            Err(format!("{kind}:{value} in no conflict, at {at}"))
         }
     }
-    Ok(found)
 }
 
 /// The choices in the words of kind 14 from a place on: unit × 64 + start.
@@ -81,28 +84,27 @@ pub fn is_true(survey: &Survey, conflict: &Conflict) -> bool {
     claimed_away.is_none()
 }
 
-/// The bounds of the conflicts without choices that an ask leaves: the last bound of a walk that
-/// ended unspent, c - 1 after a plan of cost c, the ceiling after none. A spent ask leaves none,
-/// and so does a plan that costs 0.
-fn final_bounds(ask: Ask, status: Status, cost: u32) -> Vec<u32> {
-    match status {
-        Status::Plan => cost.checked_sub(1).into_iter().collect(),
-        Status::None => vec![ask.ceiling],
-        Status::Best | Status::Spent => vec![],
-    }
+/// The first of the conflicts that is not true. Those that are known to be true are not looked at
+/// again, and true ones become known.
+pub(crate) fn find_untrue<'a>(
+    survey: &Survey,
+    conflicts: &'a [Conflict],
+    known: &mut BTreeSet<Conflict>,
+) -> Option<&'a Conflict> {
+    conflicts.iter().find(|&conflict| {
+        let holds = known.contains(conflict) || is_true(survey, conflict);
+        if holds {
+            known.insert(conflict.clone());
+        }
+        !holds
+    })
 }
 
-/// Says what is wrong with the conflicts without choices among those that an ask left whose block
-/// has this status and cost; the others are which the program likes.
-pub fn check_final(
-    ask: Ask,
-    status: Status,
-    cost: u32,
-    conflicts: &[Conflict],
-) -> Result<(), String> {
+/// Says what is wrong with the conflicts without choices where those with the bounds are due, in
+/// their order; the others are which the program likes, and where.
+pub(crate) fn check_concluded(due: &[u32], conflicts: &[Conflict]) -> Result<(), String> {
     let without = conflicts.iter().filter(|found| found.choices.is_empty());
     let bounds: Vec<u32> = without.map(|conflict| conflict.bound).collect();
-    let due = final_bounds(ask, status, cost);
     if bounds == due {
         return Ok(());
     }

@@ -1,7 +1,7 @@
 //! The judge of a grid, and the input of the program that prints its judgement.
 
 use crate::formulas::{broken, cost};
-use crate::words::{kind_of, load, word_of_bytes};
+use crate::words::{file_end, load};
 use crate::{read, Plan, Refusal};
 use std::fmt;
 
@@ -22,9 +22,7 @@ impl fmt::Display for Judgement {
         match self {
             Judgement::Sound(cost) => write!(f, "sound {cost}"),
             Judgement::Breaks(number) => write!(f, "rule {number}"),
-            Judgement::Rejected(Refusal { number, place }) => {
-                write!(f, "refused {number} {place}")
-            }
+            Judgement::Rejected(refusal) => write!(f, "{refusal}"),
         }
     }
 }
@@ -68,13 +66,4 @@ fn accepted(words: &[u32], grid: &[u8]) -> Result<Plan, Refusal> {
         Some(place) => refuse(12, place),
         None => Ok(plan),
     }
-}
-
-/// How many bytes of the input are the file's: those up to the first word of kind 15 and with it,
-/// or all where there is none.
-fn file_end(bytes: &[u8]) -> usize {
-    let end_word = bytes
-        .chunks_exact(4)
-        .position(|four| kind_of(word_of_bytes(four)) == 15);
-    end_word.map_or(bytes.len(), |place| 4 * (place + 1))
 }

@@ -1,6 +1,6 @@
 //! A plan file's content, the words that say it, and file A of the worked figures.
 
-use crate::words::word;
+use crate::words::{word, words_from};
 
 /// What an accepted plan file says. Lists by week or unit start with week or unit 1 at index 0.
 #[derive(Clone, Debug, PartialEq, Eq)]
@@ -89,12 +89,7 @@ pub fn smallest(weeks: u32, units: u32) -> Plan {
 pub fn example_a_words() -> Vec<u32> {
     let printed = "1:3 2:2 3:1 4:10 4:10 4:10 5:10 6:67 7:1 5:15 6:67 7:1 \
                    8:5 8:5 8:4 8:7 8:6 8:6 9:3 9:4 9:3 9:4 9:3 9:4 15:24";
-    let number = |digits: &str| digits.parse().expect("figures are in base ten");
-    printed
-        .split(' ')
-        .map(|pair| pair.split_once(':').expect("kind:value"))
-        .map(|(kind, value)| word(number(kind), number(value)))
-        .collect()
+    words_from(printed)
 }
 
 /// Whether a week or unit is one of so many, which count from 1.

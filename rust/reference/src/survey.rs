@@ -98,6 +98,23 @@ impl Survey {
     }
 }
 
+/// The number of places before a list of starts, counted unit by unit, for plans with too many
+/// places to walk; none where the list is no place.
+pub fn counted_rank(plan: &Plan, place: &[u32]) -> Option<u128> {
+    let starts: Vec<Vec<u32>> = (1..=plan.units as usize)
+        .map(|unit| permitted_starts(plan, unit))
+        .collect();
+    let mut rank = 0;
+    for (unit, start) in place.iter().enumerate() {
+        let before = starts.get(unit)?.iter().position(|other| other == start)?;
+        // each earlier start with all that extends it, and the place of the unit before
+        let extended = |fewer, of_unit: &Vec<u32>| 1 + of_unit.len() as u128 * fewer;
+        let places = starts[unit + 1..].iter().rev().fold(1, extended);
+        rank += before as u128 * places + u128::from(unit > 0);
+    }
+    (!place.is_empty()).then_some(rank)
+}
+
 /// All places that extend a list of starts, each before its own extensions. A unit without a
 /// permitted start ends them: the places of the units before it stand.
 fn places_from(plan: &Plan, starts: &[u32]) -> Vec<Place> {

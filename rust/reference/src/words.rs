@@ -13,6 +13,18 @@ pub fn word(kind: u32, value: u32) -> u32 {
     kind * VALUES + value
 }
 
+/// The words of a text that has them as `kind:value`, with spaces or line feeds between them and
+/// comments in lines that begin with `#`. Panics where it has anything else: no program reads it.
+pub fn words_from(text: &str) -> Vec<u32> {
+    let number = |digits: &str| digits.parse().expect("figures are in base ten");
+    text.lines()
+        .filter(|line| !line.starts_with('#'))
+        .flat_map(str::split_whitespace)
+        .map(|pair| pair.split_once(':').expect("kind:value"))
+        .map(|(kind, value)| word(number(kind), number(value)))
+        .collect()
+}
+
 /// The top 4 bits of a word.
 pub fn kind_of(word: u32) -> u32 {
     word / VALUES
@@ -52,4 +64,13 @@ pub(crate) fn word_of_bytes(four: &[u8]) -> u32 {
     four.iter()
         .rev()
         .fold(0, |higher, &byte| higher * 256 + u32::from(byte))
+}
+
+/// How many bytes of a program's input are the file's: those up to the first word of kind 15 and with it,
+/// or all where there is none.
+pub(crate) fn file_end(bytes: &[u8]) -> usize {
+    let end_word = bytes
+        .chunks_exact(4)
+        .position(|four| kind_of(word_of_bytes(four)) == 15);
+    end_word.map_or(bytes.len(), |place| 4 * (place + 1))
 }

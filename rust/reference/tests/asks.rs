@@ -1,10 +1,10 @@
-//! The reference on asks: the worked figures of document 01 that concern them, blocks by hand, and
-//! wrong blocks, tables and conflicts of each kind, which are to be found out.
+//! The reference on single asks: the worked figures of document 01 that concern them, blocks by
+//! hand, and wrong blocks, tables and conflicts of each kind, which are to be found out.
 
 use reference::{
-    accept, block_len, check_block, check_final, conflicts, cost, encode, example_a,
-    example_a_words, is_true, judge, lay_out, permitted_starts, sizing, smallest, word, Ask,
-    Conflict, Judgement, Lent, Plan, Refusal, Schedule, Status, Survey, ON,
+    check_block, conflicts, cost, counted_rank, encode, example_a, is_true, judge, lay_out,
+    permitted_starts, sizing, smallest, word, Ask, Conflict, Judgement, Plan, Schedule, Status,
+    Survey, ON,
 };
 
 /// One week and one unit, whose overhaul costs 7, with the given demand.
@@ -153,6 +153,42 @@ fn p11_file_a_has_12_places_and_starts_2_1_have_rank_5() {
     for none in [&[][..], &[4], &[0, 1], &[1, 0], &[1, 4], &[1, 1, 1]] {
         assert_eq!(survey.rank(none), None);
     }
+}
+
+#[test]
+fn counted_ranks_are_those_of_the_walk() {
+    let mut narrow = Plan {
+        latest: vec![3, 4, 4],
+        earliest: vec![2, 1, 3],
+        duration: vec![1, 2, 1],
+        ..smallest(4, 3)
+    };
+    let mut plans = vec![example_a(), narrow.clone()];
+    narrow.duration[1] = 4;
+    plans.extend([
+        narrow,
+        with_late_unit(1),
+        with_late_unit(2),
+        with_late_unit(3),
+    ]);
+    for plan in plans {
+        let survey = Survey::new(&plan);
+        for (rank, place) in survey.places().iter().enumerate() {
+            assert_eq!(counted_rank(&plan, place), Some(rank as u128));
+        }
+        for none in [&[][..], &[9], &[2, 0], &[2, 1, 9], &[1, 1, 1, 1]] {
+            assert_eq!(survey.rank(none), None);
+            assert_eq!(counted_rank(&plan, none), None);
+        }
+    }
+    // 52 + 52² + … + 52^16 places, of which the last has them all but one before it
+    let largest = Plan {
+        latest: vec![52; 16],
+        ..smallest(52, 16)
+    };
+    let all: u128 = (1..=16).map(|power| 52u128.pow(power)).sum();
+    assert_eq!(counted_rank(&largest, &[52; 16]), Some(all - 1));
+    assert_eq!(counted_rank(&largest, &[1; 16]), Some(15));
 }
 
 /// The survey looks at one schedule for each list of starts; the earliest of the cheapest of all
@@ -386,17 +422,21 @@ fn tables_laid_out_as_they_may_be_are_read() {
     ];
     let both = vec![conflict(20, &[(1, 1)]), conflict(9, &[(1, 3), (2, 1)])];
     assert_eq!(read(0, &two), Ok(both.clone()));
-    assert_eq!(read(27, &two), Ok(both));
-    let without = Ok(vec![conflict(268_435_455, &[])]);
-    assert_eq!(read(0, &[word(13, 268_435_455)]), without);
-    assert_eq!(read(63, &[word(13, 268_435_455)]), without);
+    // 27 words before them, each a conflict without choices, leave the last 32 free
+    let without = conflict(268_435_455, &[]);
+    let before = [word(13, 268_435_455); 27];
+    let all = [vec![without.clone(); 27], both].concat();
+    assert_eq!(read(0, &[&before[..], &two].concat()), Ok(all));
+    assert_eq!(read(0, &before[..1]), Ok(vec![without.clone()]));
+    // without choices they may stand in the last words too
+    assert_eq!(read(0, &[word(13, 268_435_455); 64]), Ok(vec![without; 64]));
     let many = smallest(1, 8);
     let choices: Vec<(u32, u32)> = (1..=8).map(|unit| (unit, 1)).collect();
     let eight = choices
         .iter()
         .map(|(unit, start)| word(14, unit * 64 + start));
     let words: Vec<u32> = [word(13, 0)].into_iter().chain(eight).collect();
-    let found = conflicts(&many, &table_with(23, &words));
+    let found = conflicts(&many, &table_with(0, &words));
     assert_eq!(found, Ok(vec![conflict(0, &choices)]));
 }
 
@@ -426,8 +466,19 @@ fn tables_laid_out_wrongly_are_found_out() {
     for choice in [0, 1, 64, 68, 128, 193, 1 << 27] {
         wrong(0, &[word(13, 1), word(14, choice)], "not permitted");
     }
-    wrong(31, &[word(13, 1), word(14, 65)], "in the last words");
-    wrong(62, &[word(13, 1), word(14, 65)], "in the last words");
+    // a conflict stands at the first word, and after it the next or none at all
+    wrong(1, &[word(13, 1)], "13:1 in no conflict, at 1");
+    wrong(
+        0,
+        &[word(13, 1), 0, word(13, 1)],
+        "13:1 in no conflict, at 2",
+    );
+    wrong(63, &[word(13, 1)], "13:1 in no conflict, at 63");
+    for before in [31, 40, 62] {
+        let mut words = vec![word(13, 1); before + 1];
+        words.push(word(14, 65));
+        wrong(0, &words, "in the last words");
+    }
     let nine: Vec<u32> = (1..=9).map(|unit| word(14, unit * 64 + 1)).collect();
     let words = table_with(0, &[&[word(13, 0)], &nine[..]].concat());
     let found = conflicts(&smallest(1, 9), &words).expect_err("nine choices");
@@ -453,59 +504,4 @@ fn false_conflicts_are_found_out() {
     }
     assert!(!is_true(&survey, &conflict(19, &[(2, 1)])));
     assert!(!is_true(&survey, &conflict(22, &[(1, 1), (2, 2)])));
-}
-
-#[test]
-fn one_conflict_without_choices_is_due_after_a_walk_that_ended() {
-    let noted = conflict(3, &[(1, 1)]);
-    let said = |status, cost, bounds: &[u32]| {
-        let last = bounds.iter().map(|&bound| conflict(bound, &[]));
-        let found: Vec<Conflict> = last.chain([noted.clone()]).collect();
-        check_final(ask(50, 1), status, cost, &found).is_ok()
-    };
-    assert!(said(Status::Plan, 19, &[18]));
-    assert!(said(Status::Plan, 0, &[]));
-    assert!(said(Status::None, 0, &[50]));
-    assert!(said(Status::Best, 19, &[]) && said(Status::Spent, 0, &[]));
-    for bounds in [&[][..], &[17], &[19], &[50], &[18, 18], &[18, 50]] {
-        assert!(!said(Status::Plan, 19, bounds), "{bounds:?}");
-    }
-    assert!(!said(Status::Plan, 0, &[0]) && !said(Status::None, 0, &[49]));
-    assert!(!said(Status::None, 0, &[]) && !said(Status::None, 0, &[50, 50]));
-    assert!(!said(Status::Best, 19, &[18]) && !said(Status::Spent, 0, &[50]));
-}
-
-#[test]
-fn asks_are_refused_in_the_order_of_the_list() {
-    let (plan, words) = (example_a(), example_a_words());
-    assert_eq!(block_len(&plan), 9);
-    let enough = |answer, table, scratch| Lent {
-        answer,
-        table,
-        scratch,
-    };
-    let refused = |number, place| Err(Refusal { number, place });
-    let all_wrong = enough(8, 63, 3);
-    assert_eq!(
-        accept(&words[..9], ask(1 << 28, 0), all_wrong),
-        refused(1, 9)
-    );
-    assert_eq!(
-        accept(&words, ask(1 << 28, 1 << 28), all_wrong),
-        refused(9, 0)
-    );
-    assert_eq!(accept(&words, ask(0, 1 << 28), all_wrong), refused(9, 1));
-    assert_eq!(accept(&words, ask(0, 0), all_wrong), refused(10, 1));
-    assert_eq!(accept(&words, ask(0, 1), all_wrong), refused(13, 0));
-    assert_eq!(
-        accept(&words, ask(0, 1), enough(8, 16_385, 3)),
-        refused(13, 0)
-    );
-    assert_eq!(accept(&words, ask(0, 1), enough(8, 64, 3)), refused(14, 0));
-    assert_eq!(accept(&words, ask(0, 1), enough(9, 64, 3)), refused(15, 0));
-    let most = ask((1 << 28) - 1, (1 << 28) - 1);
-    for lent in [enough(9, 64, 4), enough(10, 16_384, 5)] {
-        assert_eq!(accept(&words, ask(0, 1), lent), Ok(plan.clone()));
-        assert_eq!(accept(&words, most, lent), Ok(plan.clone()));
-    }
 }

@@ -1,0 +1,2 @@
+-- what a run that was not turned away has
+pub mod Admitted

@@ -1,0 +1,2 @@
+-- the words of a reply's block
+pub mod Block

@@ -1,0 +1,4 @@
+-- a program's input, step by step
+pub mod IntakeLaws
+-- the text printed for an input
+pub mod TextLaws

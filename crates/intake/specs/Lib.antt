@@ -1,0 +1,2 @@
+-- the program's answers, case by case
+pub mod Answers

@@ -1,0 +1,2 @@
+-- words written into a lent list
+pub mod Splice

@@ -1,0 +1,2 @@
+-- a part of the text
+pub mod CutLaws

@@ -1,0 +1,21 @@
+// Reads a plan file and asks from standard input and prints what each ask is told, a line each, or a refusal's number and place in one line. It decides
+// nothing of its own: `intake::plan_text` says what is printed.
+use libc::STDIN_FILENO;
+use libc::STDOUT_FILENO;
+
+// Answers an input in memory of 64 KiB at most each, which serves up to 14 units.
+fn answer(bytes: &[u8]) {
+    let mut text = [0u8; 65536];
+    let mut answers = [0u32; 2752];
+    let mut table = [0u32; 16384];
+    let mut scratch = [0u32; 16384];
+    let n = intake::plan_text(bytes, &mut text, &mut answers, &mut table, &mut scratch);
+    io::write_all(STDOUT_FILENO, &text[..n]);
+}
+
+// One byte more than is allowed shows an input that is too long.
+fn main() {
+    let mut bytes = [0u8; 32769];
+    let n = io::read_full(STDIN_FILENO, &mut bytes);
+    answer(&bytes[..n]);
+}

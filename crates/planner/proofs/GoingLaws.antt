@@ -1,0 +1,270 @@
+-- A run of asks: before the first, one more answered, and all of them, which is demand 3.
+-- Assumes nothing.
+use Prim.Native.Nat.{ℕ, _+_, _-_, _*_, _/_, _≤_, _<_}
+use mathlib.Core.Path.{_≡_, refl, sym, _∙_, ap, ap₂, subst, subst₂}
+use mathlib.Core.Bool.{Bool, _||_}
+use mathlib.Core.List.{List, [], _∷_, _++_, append-nil}
+use mathlib.Core.Logic.{⊎-elim}
+use native.Mathlib.Nat.{zero-add, eq-or-lt-of-le, add-mul, one-mul, mul-le-mul-right}
+use native.Mathlib.Numerals.{add-one}
+use native.Mathlib.Omega.{arith}
+use lib.ListN.{length, drop, replicate, length-append, length-replicate}
+use mir.Syntax.{w64}
+use mir.Val.{Fits}
+use borrow.Author.Tests.{le-ltb}
+use Rattle.sums.specs.Logic.{if}
+use Rattle.sums.specs.Range.{someTo, listTo}
+use Rattle.sums.proofs.LogicLaws.{true-false}
+use Rattle.lent.specs.Splice.{spliced}
+use Rattle.lent.proofs.SpliceLaws.{splice-behind}
+use Rattle.model.specs.declared.Layout.{Layout}
+use Rattle.model.specs.Problem.{Problem}
+use Rattle.model.specs.Words.{problemOf}
+use Rattle.model.specs.Refusal.{blockSize}
+use Rattle.model.specs.Answer.{Answer, Correct, blockOf, blocksOf}
+use Rattle.model.specs.Asks.{askCount, ceilingAt, budgetAt, answerAt, Follows, settles, settled, concludes, concluded, Answered}
+use Rattle.model.proofs.AnswerLaws.{blocks-append}
+use Rattle.model.proofs.AskLaws.{answer-old, answer-new, settles-old, concluded-new, blocks-length}
+use Rattle.instance.proofs.FiledLaws.{weeks-are, units-are}
+use Rattle.nogood.specs.Stock.{Stock}
+use Rattle.nogood.proofs.StockLaws.{stock-none}
+use Rattle.search.specs.declared.Reply.{Reply}
+use Rattle.search.specs.Ask.{answerOf}
+use Rattle.asks.specs.Admitted.{Admitted}
+use Rattle.block.specs.Block.{blockWord, Placed, putAt}
+use Rattle.block.proofs.ListedLaws.{block-listed}
+use Rattle.planner.specs.declared.Memory.{Memory}
+use Rattle.planner.specs.Memory.{settledBy, Recalls, Ready, SaysNothing, Replied, Remembered}
+use Rattle.planner.specs.Going.{Going, Turned}
+use Rattle.planner.proofs.TurnLaws.{knows-next, recalls-old, recalls-new, follows-new, settled-next}
+
+-- ---- one ask more
+
+module _ (p : Problem) (asks lent answers table : List ℕ) (m : Memory) (k : ℕ) (going : Going p asks lent answers table m k)
+    (table′ : List ℕ) (r : Reply) (replied : Replied p (ceilingAt asks k) (budgetAt asks k) m table table′ r)
+    (m′ : Memory) (kept : Remembered m (ceilingAt asks k) r m′) where
+  abbrev a : Answer
+  a = answerOf p r
+
+  more : List Answer
+  more = going .told ++ (a ∷ [])
+
+  old : (i : ℕ) → i < k → answerAt more i ≡ answerAt (going .told) i
+  unfolding more
+  old i l = answer-old (going .told) a i (omega (arith, going .each))
+
+  new : answerAt more k ≡ a
+  unfolding more
+  new = answer-new (going .told) a k (sym (going .each))
+
+  -- a claim about each ask holds of one more
+  one-more : (P : ℕ → Answer → Type 0) → ((i : ℕ) → i < k → P i (answerAt (going .told) i)) → P k a → (i : ℕ) → i < k + 1 → P i (answerAt more i)
+  one-more P before now i l =
+      ⊎-elim (λ (e : i ≡ k). subst (λ (j : ℕ). P j (answerAt more j)) (sym e) (subst (P k) (sym new) now))
+      (λ (b : i < k). subst (P i) (sym (old i b)) (before i b))
+      (eq-or-lt-of-le (below l))
+    where
+      below : i < k + 1 → i ≤ k
+      below h = omega arith
+
+  -- its block behind the others
+  front : (ws d : List ℕ) → ws ++ drop (length ws) d ≡ spliced 0 ws d
+  unfolding spliced
+  front ws d = ap (λ (n : ℕ). ws ++ drop n d) (sym (zero-add (length ws)))
+
+  blocks-next : (at : ℕ) (answers′ : List ℕ) → at ≡ length (blocksOf p (going .told)) → answers′ ≡ spliced at (blockOf p a) answers
+      → answers′ ≡ blocksOf p more ++ drop (length (blocksOf p more)) lent
+  unfolding more blocksOf
+  blocks-next at answers′ e is =
+      is
+      ∙ ap (spliced at (blockOf p a)) (going .blocks ∙ front (blocksOf p (going .told)) lent)
+      ∙ splice-behind 0 at (blocksOf p (going .told)) (blockOf p a) lent (omega arith) (omega arith)
+      ∙ sym (front (blocksOf p (going .told) ++ blockOf p a) lent)
+      ∙ ap (λ (bs : List ℕ). bs ++ drop (length bs) lent) (sym together)
+    where
+      together : blocksOf p (going .told ++ (a ∷ [])) ≡ blocksOf p (going .told) ++ blockOf p a
+      together = blocks-append p (going .told) (a ∷ []) ∙ ap (λ (l : List ℕ). blocksOf p (going .told) ++ l) (append-nil (blockOf p a))
+
+  follows-next : (i j : ℕ) → i < j → j < k + 1 → Follows (ceilingAt asks i) (answerAt more i) (ceilingAt asks j) (answerAt more j)
+  follows-next i j l h =
+      one-more (λ (n : ℕ) (x : Answer). i < n → Follows (ceilingAt asks i) (answerAt more i) (ceilingAt asks n) x)
+      (λ n b d. subst (λ (y : Answer). Follows (ceilingAt asks i) y (ceilingAt asks n) (answerAt (going .told) n)) (sym (old i (omega arith)))
+      (going .follows i n d b))
+      (λ d. subst (λ (y : Answer). Follows (ceilingAt asks i) y (ceilingAt asks k) a) (sym (old i d))
+      (follows-new p (ceilingAt asks k) (budgetAt asks k) m table table′ r (going .knows) replied m′ (ceilingAt asks i) (answerAt (going .told) i)
+      (going .recalls i d)))
+      j h l
+
+  stock-next : Stock p (concluded asks more (k + 1)) table′ (m′ .used)
+  unfolding more settled
+  stock-next =
+      subst₂ (λ (alone : List ℕ) (n : ℕ). Stock p alone table′ n) (sym left) (sym (kept .words)) (replied .stock (concluded asks (going .told) k) (going .stock))
+    where
+      left : concluded asks (going .told ++ (a ∷ [])) (k + 1)
+          ≡ concluded asks (going .told) k ++ if (settledBy m (ceilingAt asks k)) [] (concludes (ceilingAt asks k) a)
+      left =
+          concluded-new (going .told) a asks k (sym (going .each))
+          ∙ ap (λ (b : Bool). concluded asks (going .told) k ++ if b [] (concludes (ceilingAt asks k) a)) (going .settled (ceilingAt asks k))
+
+  settled-more : (d : ℕ) → someTo (k + 1) (λ j. settles (ceilingAt asks j) (answerAt more j) d) ≡ settledBy m′ d
+  unfolding someTo more
+  settled-more d =
+      ap (λ (n : ℕ). someTo n (λ j. settles (ceilingAt asks j) (answerAt more j) d)) (add-one k)
+      ∙ ap₂ _||_ (settles-old (going .told) a asks d k (omega (arith, going .each)) ∙ going .settled d)
+      (ap (λ (x : Answer). settles (ceilingAt asks k) x d) new)
+      ∙ settled-next p (ceilingAt asks k) (budgetAt asks k) m table table′ r (going .knows) replied m′ a (kept .keeps p) d
+
+  going-next : (at : ℕ) (answers′ : List ℕ) → at ≡ length (blocksOf p (going .told)) → answers′ ≡ spliced at (blockOf p a) answers
+      → Going p asks lent answers′ table′ m′ (k + 1)
+  unfolding more
+  going-next at answers′ e is =
+      let c = ceilingAt asks k in
+      let b = budgetAt asks k in
+      record {
+        told = more;
+        each = omega (arith, length-append (going .told) (a ∷ []), going .each);
+        blocks = blocks-next at answers′ e is;
+        correct = one-more (λ (i : ℕ) (x : Answer). Correct p (ceilingAt asks i) (budgetAt asks i) x) (going .correct) (replied .correct);
+        follows = follows-next;
+        stock = stock-next;
+        room =
+            omega (
+              arith,
+              replied .words (length table - 32 + k) (going .room) (omega arith),
+              kept .words,
+              replied .long,
+            );
+        knows = knows-next p c b m table table′ r (going .knows) replied m′ a refl (replied .correct) (kept .keeps p);
+        recalls =
+            one-more (λ (i : ℕ) (x : Answer). Recalls p m′ (ceilingAt asks i) x)
+            (λ i l. recalls-old p c b m table table′ r (going .knows) replied m′ a refl (replied .correct) (kept .keeps p) (ceilingAt asks i)
+            (answerAt (going .told) i) (going .recalls i l))
+            (recalls-new p c b m table table′ r (going .knows) replied m′ a refl (kept .keeps p));
+        settled = settled-more;
+      }
+
+module _ (ws asks : List ℕ) (l : Layout) (k lent room : ℕ) (ok : Admitted ws l asks lent room) (less : k < askCount asks) where
+  -- an ask of the run
+  pub ask-few : k < 32
+  ask-few = omega (arith, ok .few)
+
+  -- there is room for its block
+  pub ask-placed : Placed l k room
+  ask-placed =
+      let size = 2 + 2 * l .units + l .weeks in
+      let upto : k + 1 ≤ askCount asks = omega arith in
+      let all : (k + 1) * size ≤ askCount asks * size = mul-le-mul-right size upto in
+      record {
+        units = ok .filed .units-most;
+        weeks = ok .filed .weeks-most;
+        few = omega (arith, ok .few);
+        room = omega (arith, all, ok .room, add-mul k 1 size, one-mul size);
+      }
+
+  -- answered in its block
+  pub turned : (answers answers′ table table′ : List ℕ) (m m′ : Memory) (r : Reply) (ceiling budget : ℕ)
+      → ceiling ≡ ceilingAt asks k → budget ≡ budgetAt asks k → Replied (problemOf ws) ceiling budget m table table′ r
+      → answers′ ≡ putAt l k r answers → Remembered m ceiling r m′ → Turned (problemOf ws) asks answers table m k answers′ table′ m′
+  unfolding blockSize putAt
+  turned answers answers′ table table′ m m′ r ceiling budget c b replied put kept = record {
+    next = λ start going.
+        going-next p asks start answers table m k going table′ r own m′ (subst (λ (x : ℕ). Remembered m x r m′) c kept) (k * blockSize p) answers′
+        (place start going) words;
+  }
+    where
+      p : Problem
+      p = problemOf ws
+
+      own : Replied p (ceilingAt asks k) (budgetAt asks k) m table table′ r
+      own = subst₂ (λ (x y : ℕ). Replied p x y m table table′ r) c b replied
+
+      words : answers′ ≡ spliced (k * blockSize p) (blockOf p (answerOf p r)) answers
+      words =
+          put
+          ∙ ap₂ (λ (u w : ℕ). spliced (k * (2 + 2 * u + w)) (listTo (2 + 2 * u + w) (blockWord u w r)) answers)
+          (sym (units-are ws l (ok .filed))) (sym (weeks-are ws l (ok .filed)))
+          ∙ ap (λ (bs : List ℕ). spliced (k * blockSize p) bs answers) (block-listed p ceiling budget r (replied .correct))
+
+      place : (start : List ℕ) (going : Going p asks start answers table m k) → k * blockSize p ≡ length (blocksOf p (going .told))
+      place start going =
+          sym (blocks-length p (ceilingAt asks) (budgetAt asks) (going .told) (λ i h. going .correct i (omega (arith, going .each)))
+          ∙ ap (λ (x : ℕ). x * blockSize p) (going .each))
+
+-- ---- before the first ask
+
+-- nothing is known on an emptied table
+pub going-start : (p : Problem) (asks lent table : List ℕ) (m : Memory) (n : ℕ) → table ≡ replicate n 0 → SaysNothing m → Going p asks lent lent table m 0
+unfolding concluded someTo settledBy blocksOf
+going-start p asks lent table m n e h = record {
+  told = [];
+  each = refl;
+  blocks = refl;
+  correct = λ i l. absurd (omega arith);
+  follows = λ i j l b. absurd (omega arith);
+  stock = subst₂ (λ (w : List ℕ) (u : ℕ). Stock p [] w u) (sym e) (sym (h .words)) (stock-none p n);
+  room = omega (arith, h .words);
+  knows = record {
+    least = record { costs = λ s d. omega (arith, h .least) };
+    plan = λ k. absurd (true-false (sym k ∙ h .unknown));
+    small = h .small;
+  };
+  recalls = λ i l. absurd (omega arith);
+  settled = λ d. sym (rw (h .unknown, le-ltb d (m .least .0) (omega (arith, h .least))));
+}
+
+-- ---- between two asks
+
+-- what the next ask wants is there
+pub going-ready : (p : Problem) (asks lent answers table : List ℕ) (m : Memory) (k : ℕ) → Going p asks lent answers table m k → k < 32 → 64 ≤ length table
+    → Ready p table m
+going-ready p asks lent answers table m k h l g = record {
+  knows = h .knows;
+  held = record { alone = concluded asks (h .told) k; stock = h .stock };
+  room = omega (arith, h .room);
+}
+
+-- ---- after the last
+
+-- all asks are answered: demand 3
+pub going-answered : (p : Problem) (asks lent answers table : List ℕ) (m : Memory) (k n : ℕ) → Going p asks lent answers table m k → k ≤ n → n ≤ k
+    → n ≡ length asks / 2 → Answered p asks lent answers table
+unfolding askCount
+going-answered p asks lent answers table m k n h l g e =
+    let o : k ≡ length asks / 2 = omega arith in
+    record {
+      told = h .told;
+      nogoods = h .stock .nogoods;
+      each = h .each ∙ o;
+      blocks = h .blocks;
+      correct = λ i b. h .correct i (omega arith);
+      follows = λ i j b d. h .follows i j b (omega arith);
+      left = h .stock .table;
+      ended = h .stock .bounds ∙ ap (concluded asks (h .told)) o;
+    }
+
+-- ---- the lent memory keeps its lengths
+
+-- what a run has that was not turned away, it has all along
+pub admitted-still : (ws : List ℕ) (l : Layout) (asks : List ℕ) (t n t′ n′ : ℕ) → Admitted ws l asks t n → t′ ≡ t → n′ ≡ n → Admitted ws l asks t′ n′
+admitted-still ws l asks t n t′ n′ h e f = record { filed = h .filed; few = h .few; long = omega (arith, h .long); room = omega (arith, h .room) }
+
+-- the next ask finds the table that it wants
+pub ask-ready : (ws : List ℕ) (l : Layout) (asks : List ℕ) (t n k : ℕ) (p : Problem) (lent answers table : List ℕ) (m : Memory) → Admitted ws l asks t n
+    → k < length asks / 2 → length table ≡ t → Going p asks lent answers table m k → Ready p table m
+unfolding askCount
+ask-ready ws l asks t n k p lent answers table m ok less e going =
+    going-ready p asks lent answers table m k going (omega (arith, ok .few)) (omega (arith, ok .long))
+
+-- an ask of the run, counted as the code counts
+pub ask-less : (asks : List ℕ) (k n : ℕ) → k < n → n ≡ length asks / 2 → k < askCount asks
+unfolding askCount
+ask-less asks k n l e = omega arith
+
+-- and its number is small
+pub ask-fits : (ws : List ℕ) (l : Layout) (asks : List ℕ) (t n k : ℕ) → Admitted ws l asks t n → k < length asks / 2 → Fits w64 (k + 1)
+unfolding askCount
+ask-fits ws l asks t n k ok less = omega (arith, ok .few)
+
+-- an emptied list is as long as it was
+pub cleared-long : (w d : List ℕ) → w ≡ replicate (length d) 0 → length w ≡ length d
+cleared-long w d e = ap length e ∙ length-replicate {A = ℕ} (length d) 0

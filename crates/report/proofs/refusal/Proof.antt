@@ -1,0 +1,43 @@
+-- `report::refusal` meets its contract: its four parts one after another.
+-- Assumes nothing.
+use Rattle.report.proofs.LineLaws.{refusal-put}
+use borrow.Author.Needs.{needs}
+use Rattle.report.proofs.refusal.Statement.{statement}
+use Rattle.report.proofs.refusal.Tie as tie
+
+slice-aggregate-put-bytes : tie.Need-slice-aggregate-put-bytes
+slice-aggregate-put-bytes c = search needs
+
+put-bytes-requires : tie.Need-put-bytes-requires
+put-bytes-requires c κs = search needs
+
+wide-requires : tie.Need-wide-requires
+wide-requires c κs = search needs
+
+put-number-requires : tie.Need-put-number-requires
+put-number-requires c κs = search needs
+
+put-number-requires-2 : tie.Need-put-number-requires-2
+put-number-requires-2 c κs = search needs
+
+put-byte-requires : tie.Need-put-byte-requires
+put-byte-requires c κs = search needs
+
+same-length : tie.Need-same-length
+same-length c = search needs
+
+returns : tie.Need-returns
+returns c = search refusal-put
+
+pub refusal-spec : {M : Type 1} → statement M
+refusal-spec =
+    tie.close
+    (tie.spec
+    slice-aggregate-put-bytes
+    put-bytes-requires
+    wide-requires
+    put-number-requires
+    put-number-requires-2
+    put-byte-requires
+    same-length
+    returns)

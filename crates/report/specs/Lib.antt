@@ -1,0 +1,2 @@
+-- text put into lent bytes
+pub mod Put

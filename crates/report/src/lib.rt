@@ -1,0 +1,173 @@
+// The text that the planning program prints, written into lent bytes: a line an ask, by the words of its block, or one line for a refusal.
+ghost use mathlib.Core.Path.{_≡_};
+ghost use mathlib.Core.List.{[], _∷_};
+ghost use Prim.Native.Nat.{_+_, _*_, _%_, _<_, _≤_};
+ghost use lib.ListN.{length};
+ghost use Rattle.model.specs.Lines.{digitsTo, numberText, wordsText, scheduleText, markText, bestText, blockText, lineText, linesText, refusalText};
+ghost use Rattle.report.specs.Put.{Put, Whole, Listed};
+
+// ---- bytes
+
+// One byte.
+fn put_byte(text: &mut [u8], at: usize, b: u8) -> usize
+    requires { ⌜ at < length (now text) ⌝ }
+    ensures { λ r. ⌜ Put (now (text .entry)) (now (text .exit)) at r 1 (b ∷ []) ⌝ }
+{
+    text[at] = b;
+    at + 1
+}
+
+// Bytes as they are.
+fn put_bytes(text: &mut [u8], at: usize, s: &[u8]) -> usize
+    requires { ⌜ at + length (now s) ≤ length (now text) ⌝ }
+    ensures { λ r. ⌜ Put (now (text .entry)) (now (text .exit)) at r (length (now (s .entry))) (now (s .entry)) ⌝ }
+{
+    let n = s.len();
+    for i in 0..n {
+        text[at + i] = s[i];
+    }
+    at + n
+}
+
+// ---- numbers
+
+// The last digit of a number as a character.
+fn digit(x: u64) -> u8
+    ensures { λ r. ⌜ r ≡ 48 + x % 10 ⌝ }
+{
+    48 + (x % 10) as u8
+}
+
+// The digits of a number, n at most.
+fn put_digits(text: &mut [u8], at: usize, x: u64, n: usize) -> usize
+    requires { ⌜ at + n ≤ length (now text) ⌝ }
+    ensures { λ r. ⌜ Put (now (text .entry)) (now (text .exit)) at r n (digitsTo n x) ⌝ }
+{
+    if n == 0 {
+        return at;
+    }
+    if x < 10 {
+        return put_byte(text, at, digit(x));
+    }
+    let next = put_digits(text, at, x / 10, n - 1);
+    put_byte(text, next, digit(x))
+}
+
+// A space and a number.
+fn put_number(text: &mut [u8], at: usize, x: u64) -> usize
+    requires { ⌜ at + 21 ≤ length (now text) ⌝ }
+    ensures { λ r. ⌜ Put (now (text .entry)) (now (text .exit)) at r 21 (numberText x) ⌝ }
+{
+    let next = put_byte(text, at, 32);
+    put_digits(text, next, x, 20)
+}
+
+// A word as a number of 64 bits.
+fn wide(word: u32) -> u64
+    ensures { λ r. ⌜ r ≡ word ⌝ }
+{
+    word as u64
+}
+
+// The n words from a place on, each behind a space.
+fn put_words(text: &mut [u8], at: usize, answers: &[u32], place: usize, n: usize) -> usize
+    requires { ⌜ (at + 21 * n ≤ length (now text)) × (place + n ≤ length (now answers)) ⌝ }
+    ensures { λ r. ⌜ Put (now (text .entry)) (now (text .exit)) at r (21 * n) (wordsText (now (answers .entry)) place n) ⌝ }
+{
+    let mut next = at;
+    for i in 0..n {
+        let more = put_number(text, next, wide(answers[place + i]));
+        next = more;
+    }
+    next
+}
+
+// ---- the line of an ask, by its block of u units and w weeks at place b
+
+// The cost, the starts and the run numbers.
+fn put_schedule(text: &mut [u8], at: usize, answers: &[u32], b: usize, u: usize, w: usize) -> usize
+    requires { ⌜ Whole (length (now answers)) b u w × (at + 1460 ≤ length (now text)) ⌝ }
+    ensures { λ r. ⌜ Put (now (text .entry)) (now (text .exit)) at r 1460 (scheduleText (now (answers .entry)) b u w) ⌝ }
+{
+    let cost = put_number(text, at, wide(answers[b + 1]));
+    let starts = put_bytes(text, cost, b" starts");
+    let run = put_words(text, starts, answers, b + 2, u);
+    let runs = put_bytes(text, run, b" run");
+    put_words(text, runs, answers, b + 2 + u, w)
+}
+
+// The mark, its missing starts 0.
+fn put_mark(text: &mut [u8], at: usize, answers: &[u32], b: usize, u: usize, w: usize) -> usize
+    requires { ⌜ Whole (length (now answers)) b u w × (at + 341 ≤ length (now text)) ⌝ }
+    ensures { λ r. ⌜ Put (now (text .entry)) (now (text .exit)) at r 341 (markText (now (answers .entry)) b u w) ⌝ }
+{
+    let starts = put_bytes(text, at, b" mark");
+    put_words(text, starts, answers, b + 2 + u + w, u)
+}
+
+// A best schedule before a mark.
+fn put_best(text: &mut [u8], at: usize, answers: &[u32], b: usize, u: usize, w: usize) -> usize
+    requires { ⌜ Whole (length (now answers)) b u w × (at + 1806 ≤ length (now text)) ⌝ }
+    ensures { λ r. ⌜ Put (now (text .entry)) (now (text .exit)) at r 1806 (bestText (now (answers .entry)) b u w) ⌝ }
+{
+    let best = put_bytes(text, at, b" best");
+    let mark = put_schedule(text, best, answers, b, u, w);
+    put_mark(text, mark, answers, b, u, w)
+}
+
+// What the ask is told, by its status.
+fn put_block(text: &mut [u8], at: usize, answers: &[u32], b: usize, u: usize, w: usize) -> usize
+    requires { ⌜ Whole (length (now answers)) b u w × (at + 1806 ≤ length (now text)) ⌝ }
+    ensures { λ r. ⌜ Put (now (text .entry)) (now (text .exit)) at r 1806 (blockText (now (answers .entry)) b u w) ⌝ }
+{
+    let status = answers[b];
+    if status == 1 {
+        let plan = put_bytes(text, at, b" plan");
+        return put_schedule(text, plan, answers, b, u, w);
+    }
+    if status == 2 {
+        return put_bytes(text, at, b" none");
+    }
+    if status == 3 {
+        return put_best(text, at, answers, b, u, w);
+    }
+    let spent = put_bytes(text, at, b" spent");
+    put_mark(text, spent, answers, b, u, w)
+}
+
+// The line of ask k, from 0.
+fn put_line(text: &mut [u8], at: usize, answers: &[u32], k: usize, u: usize, w: usize) -> usize
+    requires { ⌜ Whole (length (now answers)) (k * (2 + 2 * u + w)) u w × (at + 1831 ≤ length (now text)) × (k < 32) ⌝ }
+    ensures { λ r. ⌜ Put (now (text .entry)) (now (text .exit)) at r 1831 (lineText (now (answers .entry)) k u w) ⌝ }
+{
+    let ask = put_bytes(text, at, b"ask");
+    let number = put_number(text, ask, (k + 1) as u64);
+    let block = put_block(text, number, answers, k * (2 + 2 * u + w), u, w);
+    put_byte(text, block, 10)
+}
+
+// ---- all that is printed
+
+// The lines of all asks.
+pub fn lines(text: &mut [u8], answers: &[u32], asks: usize, u: usize, w: usize) -> usize
+    requires { ⌜ Listed (length (now answers)) asks u w × (65536 ≤ length (now text)) ⌝ }
+    ensures { λ r. ⌜ Put (now (text .entry)) (now (text .exit)) 0 r (1831 * asks) (linesText (now (answers .entry)) asks u w) ⌝ }
+{
+    let mut next = 0;
+    for k in 0..asks {
+        let more = put_line(text, next, answers, k, u, w);
+        next = more;
+    }
+    next
+}
+
+// The line of a refusal.
+pub fn refusal(text: &mut [u8], number: u32, place: usize) -> usize
+    requires { ⌜ 50 ≤ length (now text) ⌝ }
+    ensures { λ r. ⌜ Put (now (text .entry)) (now (text .exit)) 0 r 50 (refusalText number place) ⌝ }
+{
+    let refused = put_bytes(text, 0, b"refused");
+    let first = put_number(text, refused, wide(number));
+    let second = put_number(text, first, place as u64);
+    put_byte(text, second, 10)
+}
