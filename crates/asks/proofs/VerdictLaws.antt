@@ -15,6 +15,7 @@ use Rattle.model.specs.Reading.{readOf}
 use Rattle.model.specs.Refusal.{asksVerdict, memoryVerdict, runVerdict}
 use Rattle.model.specs.Asks.{askCount}
 use Rattle.model.proofs.ReadingLaws.{refused-not}
+use Rattle.model.proofs.VerdictLaws.{first-passed, second-passed}
 use Rattle.instance.specs.Filed.{Filed}
 use Rattle.instance.proofs.FiledLaws.{filed}
 use Rattle.decoder.specs.declared.Verdict.{Verdict}
@@ -63,28 +64,18 @@ module _ (ws asks : List ℕ) (table answers scratch : ℕ) (v : Verdict) (said 
 
 -- ---- what has passed them
 
-first-passed : (x y : model.Verdict) → accepted ≡ andThen x y → x ≡ accepted
-unfolding andThen
-first-passed accepted y e = refl
-first-passed (refused number place) y e = absurd (refused-not number place (sym e))
-
-second-passed : (x y : model.Verdict) → accepted ≡ andThen x y → y ≡ accepted
-unfolding andThen
-second-passed accepted y e = sym e
-second-passed (refused number place) y e = absurd (refused-not number place (sym e))
-
 module _ (ws asks : List ℕ) (table answers scratch : ℕ) (v : Verdict)
     (said : verdictOf v ≡ runVerdict ws asks table answers scratch) (e : v ≡ Accepted) (l : Layout) (laid : l ≡ layoutOf ws) where
   rest : model.Verdict
   unfolding andThen
   rest = andThen (asksVerdict asks) (memoryVerdict (problemOf ws) (length asks / 2) table answers scratch)
 
-  all-passed : accepted ≡ andThen (readOf ws) rest
+  all-passed : andThen (readOf ws) rest ≡ accepted
   unfolding rest runVerdict
-  all-passed = rw e at said
+  all-passed = let q : accepted ≡ runVerdict ws asks table answers scratch = rw e at said in sym q
 
-  rest-passed : accepted ≡ rest
-  rest-passed = sym (second-passed (readOf ws) rest all-passed)
+  rest-passed : rest ≡ accepted
+  rest-passed = second-passed (readOf ws) rest all-passed
 
   is-filed : Filed ws l
   is-filed = filed ws l (first-passed (readOf ws) rest all-passed) laid

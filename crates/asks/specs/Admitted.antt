@@ -1,4 +1,4 @@
--- What a run has that was not turned away: an accepted file, 1 to 32 asks, and enough lent memory.
+-- What a run has that was not turned away, as far as its code needs it: an accepted file, at most 32 asks, and enough lent memory.
 -- Assumes nothing.
 use Prim.Native.Nat.{ℕ, _+_, _*_, _≤_}
 use mathlib.Core.List.{List}

@@ -2,6 +2,7 @@
 // All that the program decides is decided here.
 use decoder::Reply;
 use decoder::Verdict;
+ghost use mathlib.Core.Path.{_≡_};
 ghost use Prim.Native.Nat.{_≤_};
 ghost use lib.ListN.{length, take, drop};
 ghost use Rattle.model.specs.Program.{RanInput};
@@ -80,7 +81,7 @@ pub fn plan_input(
     }
 }
 
-// The text that is printed for an input: how many of the lent bytes it has. 64 KiB hold the longest.
+// The text that is printed for an input: how many of the lent bytes it has; any beyond are kept. 64 KiB hold the longest.
 pub fn plan_text(
     bytes: &[u8],
     text: &mut [u8],
@@ -91,7 +92,7 @@ pub fn plan_text(
     requires { ⌜ 65536 ≤ length (now text) ⌝ }
     ensures { λ r. ⌜ ShownInput (now (bytes .entry)) (now (answers .entry)) (now (table .entry)) (now (scratch .entry))
         (now (answers .exit)) (now (table .exit)) (now (scratch .exit)) (now (text .exit)) r ⌝ }
-    ensures { λ r. ⌜ r ≤ length (now (text .exit)) ⌝ }
+    ensures { λ r. ⌜ (r ≤ length (now (text .exit))) × (drop r (now (text .exit)) ≡ drop r (now (text .entry))) ⌝ }
 {
     let planned = plan_input(bytes, answers, table, scratch);
     match planned {

@@ -8,19 +8,10 @@ use native.Mathlib.Numerals.{add-one}
 use native.Mathlib.Omega.{arith}
 use lib.ListN.{length, getD}
 use borrow.Author.Tests.{eq-eqb, ne-eqb}
+use Rattle.model.specs.Lines.{askWord, refusedWord, planWord, noneWord, bestWord, spentWord, startsWord, runWord, markWord}
 use Rattle.model.specs.Lines.{numberText, wordsText, scheduleText, markText, bestText, blockText, lineText, linesText, refusalText}
 use Rattle.report.specs.Put.{Put, Whole, Listed}
 use Rattle.report.proofs.PutLaws.{put-nothing, put-join, put-most}
-
--- the words of the lines
-abbrev startsWord : List ℕ
-startsWord = 32 ∷ 115 ∷ 116 ∷ 97 ∷ 114 ∷ 116 ∷ 115 ∷ []
-
-abbrev runWord : List ℕ
-runWord = 32 ∷ 114 ∷ 117 ∷ 110 ∷ []
-
-abbrev markWord : List ℕ
-markWord = 32 ∷ 109 ∷ 97 ∷ 114 ∷ 107 ∷ []
 
 module _ (ws : List ℕ) (b u w : ℕ) (whole : Whole (length ws) b u w) where
   -- " mark" and its starts
@@ -51,36 +42,34 @@ module _ (ws : List ℕ) (b u w : ℕ) (whole : Whole (length ws) b u w) where
       most
 
   -- " best" with both
-  pub best-put : (d d₁ d₂ d₃ : List ℕ) (at k₁ k₂ r : ℕ) → at + 1806 ≤ length d → Put d d₁ at k₁ 5 (32 ∷ 98 ∷ 101 ∷ 115 ∷ 116 ∷ [])
+  pub best-put : (d d₁ d₂ d₃ : List ℕ) (at k₁ k₂ r : ℕ) → at + 1806 ≤ length d → Put d d₁ at k₁ 5 bestWord
       → Put d₁ d₂ k₁ k₂ 1460 (scheduleText ws b u w) → Put d₂ d₃ k₂ r 341 (markText ws b u w) → Put d d₃ at r 1806 (bestText ws b u w)
   unfolding bestText
   best-put d d₁ d₂ d₃ at k₁ k₂ r room f₁ f₂ f₃ =
       let low : at ≤ length d = omega arith in
-      let best : List ℕ = 32 ∷ 98 ∷ 101 ∷ 115 ∷ 116 ∷ [] in
-      put-join d d₂ d₃ at k₂ r 1465 341 (best ++ scheduleText ws b u w) (markText ws b u w) low
-      (put-join d d₁ d₂ at k₁ k₂ 5 1460 best (scheduleText ws b u w) low f₁ f₂) f₃
+      put-join d d₂ d₃ at k₂ r 1465 341 (bestWord ++ scheduleText ws b u w) (markText ws b u w) low
+      (put-join d d₁ d₂ at k₁ k₂ 5 1460 bestWord (scheduleText ws b u w) low f₁ f₂) f₃
 
 -- ---- a block by its status
 
 module _ (ws : List ℕ) (b u w : ℕ) (d d₁ d₂ : List ℕ) (at k r s : ℕ) (is : s ≡ getD ws b 0) (room : at + 1806 ≤ length d) where
   -- a plan
-  pub block-plan : s ≡ 1 → Put d d₁ at k 5 (32 ∷ 112 ∷ 108 ∷ 97 ∷ 110 ∷ []) → Put d₁ d₂ k r 1460 (scheduleText ws b u w)
+  pub block-plan : s ≡ 1 → Put d d₁ at k 5 planWord → Put d₁ d₂ k r 1460 (scheduleText ws b u w)
       → Put d d₂ at r 1806 (blockText ws b u w)
   unfolding blockText
   block-plan e f g =
       let low : at ≤ length d = omega arith in
-      let plan : List ℕ = 32 ∷ 112 ∷ 108 ∷ 97 ∷ 110 ∷ [] in
       let most : 1465 ≤ 1806 = omega arith in
       rw (← is, eq-eqb s 1 e)
-      (put-most d d₂ at r 1465 1806 (plan ++ scheduleText ws b u w) (put-join d d₁ d₂ at k r 5 1460 plan (scheduleText ws b u w) low f g) most)
+      (put-most d d₂ at r 1465 1806 (planWord ++ scheduleText ws b u w) (put-join d d₁ d₂ at k r 5 1460 planWord (scheduleText ws b u w) low f g) most)
 
   module _ (not-plan : s ≡ 1 → ⊥) where
     -- none
-    pub block-none : s ≡ 2 → Put d d₁ at r 5 (32 ∷ 110 ∷ 111 ∷ 110 ∷ 101 ∷ []) → Put d d₁ at r 1806 (blockText ws b u w)
+    pub block-none : s ≡ 2 → Put d d₁ at r 5 noneWord → Put d d₁ at r 1806 (blockText ws b u w)
     unfolding blockText
     block-none e f =
         let most : 5 ≤ 1806 = omega arith in
-        rw (← is, ne-eqb s 1 not-plan, eq-eqb s 2 e) (put-most d d₁ at r 5 1806 (32 ∷ 110 ∷ 111 ∷ 110 ∷ 101 ∷ []) f most)
+        rw (← is, ne-eqb s 1 not-plan, eq-eqb s 2 e) (put-most d d₁ at r 5 1806 noneWord f most)
 
     module _ (not-none : s ≡ 2 → ⊥) where
       -- a best before the mark
@@ -89,31 +78,29 @@ module _ (ws : List ℕ) (b u w : ℕ) (d d₁ d₂ : List ℕ) (at k r s : ℕ)
       block-best e f = rw (← is, ne-eqb s 1 not-plan, ne-eqb s 2 not-none, eq-eqb s 3 e) f
 
       -- a mark alone
-      pub block-spent : (s ≡ 3 → ⊥) → Put d d₁ at k 6 (32 ∷ 115 ∷ 112 ∷ 101 ∷ 110 ∷ 116 ∷ []) → Put d₁ d₂ k r 341 (markText ws b u w)
+      pub block-spent : (s ≡ 3 → ⊥) → Put d d₁ at k 6 spentWord → Put d₁ d₂ k r 341 (markText ws b u w)
           → Put d d₂ at r 1806 (blockText ws b u w)
       unfolding blockText
       block-spent not-best f g =
           let low : at ≤ length d = omega arith in
-          let spent : List ℕ = 32 ∷ 115 ∷ 112 ∷ 101 ∷ 110 ∷ 116 ∷ [] in
           let most : 347 ≤ 1806 = omega arith in
           rw (← is, ne-eqb s 1 not-plan, ne-eqb s 2 not-none, ne-eqb s 3 not-best)
-          (put-most d d₂ at r 347 1806 (spent ++ markText ws b u w) (put-join d d₁ d₂ at k r 6 341 spent (markText ws b u w) low f g) most)
+          (put-most d d₂ at r 347 1806 (spentWord ++ markText ws b u w) (put-join d d₁ d₂ at k r 6 341 spentWord (markText ws b u w) low f g) most)
 
 -- ---- lines
 
 -- one line
 pub line-put : (ws : List ℕ) (k u w : ℕ) (d d₁ d₂ d₃ d₄ : List ℕ) (at k₁ k₂ k₃ r : ℕ) → at + 1831 ≤ length d
-    → Put d d₁ at k₁ 3 (97 ∷ 115 ∷ 107 ∷ []) → Put d₁ d₂ k₁ k₂ 21 (numberText (k + 1))
+    → Put d d₁ at k₁ 3 askWord → Put d₁ d₂ k₁ k₂ 21 (numberText (k + 1))
     → Put d₂ d₃ k₂ k₃ 1806 (blockText ws (k * (2 + 2 * u + w)) u w) → Put d₃ d₄ k₃ r 1 (10 ∷ [])
     → Put d d₄ at r 1831 (lineText ws k u w)
 unfolding lineText
 line-put ws k u w d d₁ d₂ d₃ d₄ at k₁ k₂ k₃ r room f₁ f₂ f₃ f₄ =
     let low : at ≤ length d = omega arith in
-    let ask : List ℕ = 97 ∷ 115 ∷ 107 ∷ [] in
     let block = blockText ws (k * (2 + 2 * u + w)) u w in
-    let two = put-join d d₁ d₂ at k₁ k₂ 3 21 ask (numberText (k + 1)) low f₁ f₂ in
-    let three = put-join d d₂ d₃ at k₂ k₃ 24 1806 (ask ++ numberText (k + 1)) block low two f₃ in
-    put-join d d₃ d₄ at k₃ r 1830 1 (ask ++ numberText (k + 1) ++ block) (10 ∷ []) low three f₄
+    let two = put-join d d₁ d₂ at k₁ k₂ 3 21 askWord (numberText (k + 1)) low f₁ f₂ in
+    let three = put-join d d₂ d₃ at k₂ k₃ 24 1806 (askWord ++ numberText (k + 1)) block low two f₃ in
+    put-join d d₃ d₄ at k₃ r 1830 1 (askWord ++ numberText (k + 1) ++ block) (10 ∷ []) low three f₄
 
 -- none yet
 pub lines-start : (d ws : List ℕ) (u w : ℕ) → Put d d 0 0 (1831 * 0) (linesText ws 0 u w)
@@ -154,14 +141,13 @@ pub lines-ended : (ws d l : List ℕ) (asks u w k n : ℕ) → Put d l 0 n (1831
 lines-ended ws d l asks u w k n h a b = let e : k ≡ asks = omega arith in rw e at h
 
 -- the line of a refusal
-pub refusal-put : (number place x : ℕ) (d d₁ d₂ d₃ d₄ : List ℕ) (k₁ k₂ k₃ r : ℕ) → x ≡ number → Put d d₁ 0 k₁ 7 (114 ∷ 101 ∷ 102 ∷ 117 ∷ 115 ∷ 101 ∷ 100 ∷ [])
+pub refusal-put : (number place x : ℕ) (d d₁ d₂ d₃ d₄ : List ℕ) (k₁ k₂ k₃ r : ℕ) → x ≡ number → Put d d₁ 0 k₁ 7 refusedWord
     → Put d₁ d₂ k₁ k₂ 21 (numberText x) → Put d₂ d₃ k₂ k₃ 21 (numberText place) → Put d₃ d₄ k₃ r 1 (10 ∷ [])
     → Put d d₄ 0 r 50 (refusalText number place)
 unfolding refusalText
 refusal-put number place x d d₁ d₂ d₃ d₄ k₁ k₂ k₃ r is f₁ f₂ f₃ f₄ =
     let low : 0 ≤ length d = omega arith in
-    let word : List ℕ = 114 ∷ 101 ∷ 102 ∷ 117 ∷ 115 ∷ 101 ∷ 100 ∷ [] in
     let own : Put d₁ d₂ k₁ k₂ 21 (numberText number) = rw is at f₂ in
-    let two = put-join d d₁ d₂ 0 k₁ k₂ 7 21 word (numberText number) low f₁ own in
-    let three = put-join d d₂ d₃ 0 k₂ k₃ 28 21 (word ++ numberText number) (numberText place) low two f₃ in
-    put-join d d₃ d₄ 0 k₃ r 49 1 (word ++ numberText number ++ numberText place) (10 ∷ []) low three f₄
+    let two = put-join d d₁ d₂ 0 k₁ k₂ 7 21 refusedWord (numberText number) low f₁ own in
+    let three = put-join d d₂ d₃ 0 k₂ k₃ 28 21 (refusedWord ++ numberText number) (numberText place) low two f₃ in
+    put-join d d₃ d₄ 0 k₃ r 49 1 (refusedWord ++ numberText number ++ numberText place) (10 ∷ []) low three f₄

@@ -6,7 +6,7 @@ use mathlib.Core.List.{List, [], _∷_, _++_}
 use native.Mathlib.Numerals.{add-one}
 use native.Mathlib.Omega.{arith}
 use lib.ListN.{length, getD, take, drop, set, length-append}
-use lib.Seq.{length-take-le, take-at, take-suc, take-all}
+use lib.Seq.{length-take-le, take-at, drop-at, take-suc, take-all}
 use borrow.Author.Tests.{lt-ltb, le-ltb}
 use Rattle.lent.specs.Splice.{spliced}
 use Rattle.lent.proofs.SpliceLaws.{splice-none, splice-one, splice-behind, splice-length}
@@ -46,6 +46,14 @@ unfolding spliced
 put-taken d d′ r m ws h =
     let n : length ws ≡ r = omega (arith, h .end) in
     ap (take r) (h .bytes) ∙ take-at ws (drop (0 + length ws) d) r n
+
+-- and what stands behind it is as it was
+pub put-kept : (d d′ : List ℕ) (r m : ℕ) (ws : List ℕ) → Put d d′ 0 r m ws → drop r d′ ≡ drop r d
+unfolding spliced
+put-kept d d′ r m ws h =
+    let n : length ws ≡ r = omega (arith, h .end) in
+    let e : 0 + length ws ≡ r = omega arith in
+    ap (drop r) (h .bytes) ∙ drop-at ws (drop (0 + length ws) d) r n ∙ ap (λ (k : ℕ). drop k d) e
 
 -- ---- digits
 
