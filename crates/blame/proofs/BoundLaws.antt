@@ -1,4 +1,4 @@
--- The lower bound with prices, and with none: what every sound schedule with the starts of some units costs at least.
+-- The lower bound at any prices: what every sound schedule with the starts of some units costs at least; and what the first k units cost so far.
 -- Assumes nothing.
 use Prim.Native.Nat.{ℕ, zero, suc, _+_, _≤_, _<_}
 use mathlib.Core.Path.{_≡_, refl, sym, _∙_, ap}
@@ -20,8 +20,8 @@ use Rattle.model.specs.Plan.{Plan, upkeep, upkeepAt, runCostAt, planCost}
 use Rattle.model.proofs.CommitmentLaws.{fewer-out, cheapest-right}
 use Rattle.model.proofs.ScheduleLaws.{sound-plan, cost-plan}
 use Rattle.blame.specs.Closed.{Agree, Closed}
-use Rattle.blame.specs.Placed.{firstUnits, outOf, placed, weekPaid, paid}
-use Rattle.blame.specs.Priced.{priced, noPrices, prices, unitBound, lowerBound, LeastPriced, WeekLeast}
+use Rattle.blame.specs.Placed.{outOf, placed, weekPaid, paid}
+use Rattle.blame.specs.Priced.{priced, priceSum, unitBound, lowerBound, LeastPriced, WeekLeast}
 
 -- ---- sums
 
@@ -99,8 +99,8 @@ module _ (p : Problem) (u : ℕ → ℕ → ℕ) (s : Schedule) where
         ∙ and-right (b i) (inSpan (starts i) (p .duration i) t) e
 
     weeks-below : ((t : ℕ) → t < p .weeks → WeekLeast p u t (outOf p b starts t) (v t))
-        → sumTo (p .weeks) v + sumTo (p .weeks) (rowSum (p .units) (outPrice p u (s .start))) ≤ sumTo (p .weeks) (runCostAt p (s .run)) + prices p u
-    unfolding prices added rowSum runCostAt
+        → sumTo (p .weeks) v + sumTo (p .weeks) (rowSum (p .units) (outPrice p u (s .start))) ≤ sumTo (p .weeks) (runCostAt p (s .run)) + priceSum p u
+    unfolding priceSum added rowSum runCostAt
     weeks-below w =
         let a = sum-added (p .weeks) v (rowSum (p .units) (outPrice p u (s .start))) in
         let c = sum-added (p .weeks) (runCostAt p (s .run)) (rowSum (p .units) u) in
@@ -116,35 +116,17 @@ module _ (p : Problem) (u : ℕ → ℕ → ℕ) (s : Schedule) where
         )
 
     bound-below : LeastPriced p u least → ((t : ℕ) → t < p .weeks → WeekLeast p u t (outOf p b starts t) (v t))
-        → lowerBound p u b starts least v ≤ planCost p s + prices p u
+        → lowerBound p u b starts least v ≤ planCost p s + priceSum p u
     unfolding lowerBound planCost
     bound-below le w = omega (arith, units-below le, weeks-below w, units-priced)
 
 -- starts of any set of units, whose bound less all prices comes to the limit, are a dead end
 pub priced-closed : (p : Problem) (u : ℕ → ℕ → ℕ) (b : NumSet) (starts least v : ℕ → ℕ) (limit : ℕ) → Fair p → LeastPriced p u least
-    → ((t : ℕ) → t < p .weeks → WeekLeast p u t (outOf p b starts t) (v t)) → limit + prices p u ≤ lowerBound p u b starts least v
+    → ((t : ℕ) → t < p .weeks → WeekLeast p u t (outOf p b starts t) (v t)) → limit + priceSum p u ≤ lowerBound p u b starts least v
     → Closed p b starts limit
 priced-closed p u b starts least v limit fair le w h = record {
   costs = λ s sound agree. omega (arith, bound-below p u s b starts least v (sound-plan p s fair sound) agree le w, cost-plan p s (sound .schedule));
 }
-
--- ---- without prices
-
--- a unit costs its maintenance
-pub priced-none : (p : Problem) (i s : ℕ) → priced p noPrices i s ≡ upkeep p i s
-unfolding priced upkeep pick added turned noPrices
-priced-none p i s =
-    sum-same (p .weeks) (pick (inSpan s (p .duration i)) (added (turned (p .maint) i) (turned noPrices i)))
-    (pick (inSpan s (p .duration i)) (turned (p .maint) i))
-    (λ t l. ap (λ (c : ℕ). if (inSpan s (p .duration i) t) c 0) (plus-none (p .maint t i)))
-  where
-    plus-none : (a : ℕ) → a + 0 ≡ a
-    plus-none a = omega arith
-
--- and all prices come to 0
-pub prices-none : (p : Problem) → prices p noPrices ≡ 0
-unfolding prices rowSum noPrices
-prices-none p = sum-zero (p .weeks) (rowSum (p .units) noPrices) (λ t l. sum-zero (p .units) (noPrices t) (λ i h. refl))
 
 -- ---- the first k units
 
@@ -175,24 +157,3 @@ module _ (p : Problem) (starts : ℕ → ℕ) (k : ℕ) (le : k ≤ p .units) wh
   paid-parts =
       sum-added (p .weeks) (λ t. outCost p t (placed p starts k t)) (λ t. leastCost p t (placed p starts k t))
       ∙ ap (λ (a : ℕ). a + sumTo (p .weeks) (λ t. leastCost p t (placed p starts k t))) placed-upkeep
-
-  -- the units' parts of the bound without prices
-  plain-units : (least : ℕ → ℕ)
-      → sumTo (p .units) (unitBound p noPrices (firstUnits k) starts least) + sumTo k least ≡ sumTo k (upkeepAt p starts) + sumTo (p .units) least
-  unfolding unitBound firstUnits upkeepAt
-  plain-units least = sum-front k (p .units) (unitBound p noPrices (firstUnits k) starts least) (upkeepAt p starts) least le low high
-    where
-      low : (i : ℕ) → i < k → unitBound p noPrices (firstUnits k) starts least i ≡ upkeepAt p starts i
-      low i l = rw (lt-ltb i k l) (priced-none p i (starts i))
-
-      high : (i : ℕ) → k ≤ i → i < p .units → unitBound p noPrices (firstUnits k) starts least i ≡ least i
-      high i l h = rw (le-ltb i k l)
-
--- starts of the first k units that cost the limit so far, with the least of the others, are a dead end
-pub plain-closed : (p : Problem) (starts least : ℕ → ℕ) (k limit : ℕ) → Fair p → k ≤ p .units → LeastPriced p noPrices least
-    → limit + sumTo k least ≤ paid p (placed p starts k) + sumTo (p .units) least → Closed p (firstUnits k) starts limit
-unfolding lowerBound outOf firstUnits placed
-plain-closed p starts least k limit fair le low h =
-    priced-closed p noPrices (firstUnits k) starts least (λ t. leastCost p t (placed p starts k t)) limit fair low
-    (λ t l. week-plain p noPrices t (placed p starts k t))
-    (omega (arith, prices-none p, plain-units p starts k le least, paid-parts p starts k le))

@@ -13,7 +13,6 @@ use Rattle.sums.specs.Sum.{sumTo}
 use Rattle.sums.specs.NumSet.{NumSet}
 use Rattle.sums.proofs.LogicLaws.{and-last-false, and-last-true, or-last-false, not-so, same-test, ltb-total}
 use Rattle.sums.proofs.SumLaws.{sum-mono, sum-same}
-use Rattle.sums.proofs.NumSetLaws.{pick-agree}
 use Rattle.model.specs.Problem.{Problem, Fair}
 use Rattle.model.specs.Domain.{permitted}
 use Rattle.model.specs.Schedule.{Schedule, inSpan, outIn, Sound, cost}
@@ -28,7 +27,6 @@ use Rattle.model.specs.Commitment.{
   NO_RUN,
   runCost,
   runBefore,
-  outCost,
   pickCost,
   leastCost,
   cheapestRun,
@@ -39,18 +37,11 @@ use Rattle.model.proofs.DomainLaws.{span-from, span-below, span-of}
 use Rattle.model.proofs.CommitmentLaws.{fewer-out, cheapest-right, least-of}
 use Rattle.model.proofs.ScheduleLaws.{sound-plan, plan-sound, cost-plan}
 use Rattle.blame.specs.Closed.{Closed, Settled}
-use Rattle.blame.specs.Placed.{firstUnits, placed, partly, joined, weekPaid, paid, Standing, runOf, runAt, planOf}
+use Rattle.blame.specs.Placed.{firstUnits, placed, partly, joined, paid, Standing, runOf, runAt, planOf}
 use Rattle.blame.proofs.PairLaws.{compatible-same}
 use Rattle.blame.proofs.BoundLaws.{least-below, paid-parts}
 
 -- ---- sums
-
--- a term is no more than the sum
-sum-term : (n t : ℕ) (f : ℕ → ℕ) → t < n → f t ≤ sumTo n f
-unfolding sumTo
-sum-term zero t f h = absurd (not-suc-le-zero h)
-sum-term (suc n) t f h =
-    ⊎-elim (λ (e : t ≡ n). rw e (omega arith)) (λ (l : t < n). omega (arith, sum-term n t f l)) (eq-or-lt-of-le (le-of-suc-le-suc h))
 
 -- two sums that differ in one term
 pub sum-one : (n t : ℕ) (f g : ℕ → ℕ) → t < n → ((k : ℕ) → k < n → (k ≡ t → ⊥) → f k ≡ g k) → sumTo n g + f t ≡ sumTo n f + g t
@@ -92,25 +83,6 @@ module _ (p : Problem) (t : ℕ) (a b : NumSet) (same : (i : ℕ) → i < p .uni
       go (picked q) c nothing none = absurd (none q (there q (c .serves)))
       go (picked q) c (picked r) d = omega (arith, c .least r (back r (d .serves)), d .least q (there q (c .serves)))
 
-  -- and cost the same maintenance
-  pub out-same : outCost p t a ≡ outCost p t b
-  unfolding outCost
-  out-same = pick-agree (p .units) b a (p .maint t) same
-
-  -- so the week costs the same
-  week-same : outCost p t a + leastCost p t a ≡ outCost p t b + leastCost p t b
-  week-same = omega (arith, out-same, least-same)
-
--- the same units out in every week cost the same
-pub paid-same : (p : Problem) (out other : ℕ → NumSet) → ((t i : ℕ) → t < p .weeks → i < p .units → out t i ≡ other t i) → paid p out ≡ paid p other
-unfolding paid weekPaid
-paid-same p out other same = sum-same (p .weeks) (weekPaid p out) (weekPaid p other) (λ t l. week-same p t (out t) (other t) (λ i h. same t i l h))
-
--- a week costs no more than all of them
-pub week-most : (p : Problem) (out : ℕ → NumSet) (t : ℕ) → t < p .weeks → outCost p t (out t) + leastCost p t (out t) ≤ paid p out
-unfolding paid weekPaid
-week-most p out t l = sum-term (p .weeks) t (weekPaid p out) l
-
 -- ---- the first k units
 
 -- with no unit placed none is out
@@ -135,10 +107,6 @@ module _ (p : Problem) (starts other : ℕ → ℕ) (k : ℕ) (same : (i : ℕ) 
     compatible = λ t l. subst (Compatible p) (fun-ext (placed-agree t)) (s .compatible t l);
     served = λ t l. subst (λ (a : NumSet). leastCost p t a < NO_RUN) (fun-ext (placed-agree t)) (s .served t l);
   }
-
-  -- and for what it costs so far
-  pub paid-agree : paid p (placed p starts k) ≡ paid p (placed p other k)
-  paid-agree = paid-same p (placed p starts k) (placed p other k) (λ t i l h. placed-agree t i)
 
 -- ---- unit k, a week at a time
 
@@ -174,10 +142,6 @@ module _ (p : Problem) (starts : ℕ → ℕ) (k n t i : ℕ) where
   unfolding joined
   partly-here e = partly-at p starts k t i (n + 1) true (span-of (starts k) (n + 1) t (omega arith) (omega arith)) ∙ rw (and-last-true (eqb i k))
 
-  -- and was not out in that week before
-  pub partly-here-before : t + 1 ≡ starts k + n → partly p starts k n t i ≡ placed p starts k t i
-  partly-here-before e = partly-out p starts k t i n (λ s. omega (arith, span-below (starts k) n t s))
-
   -- in the other weeks the same units are out as before
   pub partly-else : (t + 1 ≡ starts k + n → ⊥) → partly p starts k (n + 1) t i ≡ partly p starts k n t i
   partly-else ne =
@@ -193,22 +157,6 @@ module _ (p : Problem) (starts : ℕ → ℕ) (k n t i : ℕ) where
 
       back : inSpan (starts k) n t ≡ true → inSpan (starts k) (n + 1) t ≡ true
       back e = span-of (starts k) (n + 1) t (span-from (starts k) n t e) (omega (arith, span-below (starts k) n t e))
-
--- one week more of unit k: that week costs what it does with the unit among those out, the others what they did
-pub paid-next : (p : Problem) (starts : ℕ → ℕ) (k n t : ℕ) → t < p .weeks → t + 1 ≡ starts k + n
-    → paid p (partly p starts k (n + 1)) + (outCost p t (placed p starts k t) + leastCost p t (placed p starts k t))
-    ≡ paid p (partly p starts k n) + (outCost p t (joined (placed p starts k t) k) + leastCost p t (joined (placed p starts k t) k))
-unfolding paid weekPaid
-paid-next p starts k n t l e = omega (
-  arith,
-  sum-one (p .weeks) t (weekPaid p (partly p starts k n)) (weekPaid p (partly p starts k (n + 1))) l others,
-  week-same p t (partly p starts k n t) (placed p starts k t) (λ i h. partly-here-before p starts k n t i e),
-  week-same p t (partly p starts k (n + 1) t) (joined (placed p starts k t) k) (λ i h. partly-here p starts k n t i e),
-)
-  where
-    others : (s : ℕ) → s < p .weeks → (s ≡ t → ⊥) → weekPaid p (partly p starts k n) s ≡ weekPaid p (partly p starts k (n + 1)) s
-    others s b ne =
-        week-same p s (partly p starts k n s) (partly p starts k (n + 1) s) (λ i h. sym (partly-else p starts k n s i (λ q. ne (omega arith))))
 
 -- ---- a week without a run
 

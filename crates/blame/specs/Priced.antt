@@ -18,13 +18,9 @@ use Rattle.model.specs.Plan.{Compatible}
 unfoldable pub priced : Problem → (ℕ → ℕ → ℕ) → ℕ → ℕ → ℕ
 priced p u i s = sumTo (p .weeks) (pick (inSpan s (p .duration i)) (added (turned (p .maint) i) (turned u i)))
 
--- no prices
-unfoldable pub noPrices : ℕ → ℕ → ℕ
-noPrices t i = 0
-
 -- all prices
-unfoldable pub prices : Problem → (ℕ → ℕ → ℕ) → ℕ
-prices p u = sumTo (p .weeks) (rowSum (p .units) u)
+unfoldable pub priceSum : Problem → (ℕ → ℕ → ℕ) → ℕ
+priceSum p u = sumTo (p .weeks) (rowSum (p .units) u)
 
 -- a unit's part of the bound: of b at its start, another at its least
 unfoldable pub unitBound : Problem → (ℕ → ℕ → ℕ) → NumSet → (starts least : ℕ → ℕ) → ℕ → ℕ

@@ -1,10 +1,12 @@
--- what overhauls cost at least, as a table of sums; the partners of each unit; a unit without starts
-pub mod FloorLaws
--- tallies as words, and rows of them with one unit more
+-- words of sets and tallies, rows of them
 pub mod RowLaws
+-- one week of an overhaul
+pub mod WeekLaws
+-- all its weeks, the bound, and the bound before any unit is placed
+pub mod TestLaws
+-- a unit without a permitted start
+pub mod StartlessLaws
 -- the runs of a schedule
 pub mod RunLaws
--- one week of an overhaul, tested
-pub mod WeekLaws
--- a start tested on all weeks of its overhaul, and the lower bound
-pub mod TestLaws
+-- what a schedule costs
+pub mod LeafLaws

@@ -1,6 +1,4 @@
 -- tallies as words, a row of them for each week
 pub mod Rows
--- what is known before the walk
-pub mod Floors
 -- what the tests of a start say
 pub mod Tests

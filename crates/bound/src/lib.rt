@@ -1,86 +1,32 @@
-// Tests of a start and the lower bound of what is placed. For each week a row word holds the tally of the units out; a start is tested on the weeks
-// of its overhaul alone, and what the others cost is not computed again. Every test that fails names units whose starts are a dead end.
+// Tests of a start, and the lower bound of what is placed. For each week a row word holds the tally of the units out, and another table what the week
+// is worth at the prices; a start is tested on the weeks of its overhaul alone. Every test that fails names units whose starts are a dead end.
 // Weeks and units count from 0, starts from 1.
 use commitment::Found;
 use commitment::Tally;
 use instance::Euro;
 use model::Layout;
 ghost use mathlib.Core.Path.{_≡_};
-ghost use Prim.Native.Nat.{_+_, _%_, _<_, _≤_};
-ghost use lib.ListN.{replicate};
+ghost use Prim.Native.Nat.{_+_, _-_, _%_, _<_, _≤_};
+ghost use lib.ListN.{length, replicate};
+ghost use Rattle.sums.specs.Sum.{sumTo};
 ghost use Rattle.sums.specs.NumSet.{has};
 ghost use Rattle.model.specs.Words.{problemOf};
-ghost use Rattle.model.specs.Commitment.{cheapestRun};
+ghost use Rattle.model.specs.Commitment.{outCost, leastCost, cheapestRun};
 ghost use Rattle.instance.specs.Filed.{Filed};
 ghost use Rattle.commitment.specs.Tally.{Tallies};
-ghost use Rattle.memo.specs.Memo.{Right};
 ghost use Rattle.blame.specs.Closed.{startIn};
-ghost use Rattle.blame.specs.Placed.{placed, runOf};
+ghost use Rattle.blame.specs.Placed.{firstUnits, placed, paid, Standing, runOf};
+ghost use Rattle.relaxation.specs.Clashes.{Clashes};
+ghost use Rattle.relaxation.specs.Relaxed.{priceIn, Prices, Recalls};
+ghost use Rattle.dual.specs.Dual.{leastIn, Dual, Bounds};
 ghost use Rattle.bound.specs.Rows.{tallyOf, wordOf, Packs, Rows, Joins};
-ghost use Rattle.bound.specs.Floors.{LeastFrom, Steps, Floors, Clash, Clashes};
-ghost use Rattle.bound.specs.Tests.{Due, Stands, ServeDue, Served, WeekDue, WeekTested, Tested, Weighed, Judged};
-ghost use Rattle.bound.specs.Tests.{Rooted, someStartless, Permits, RunsOf};
+ghost use Rattle.bound.specs.Tests.{Due, WeekDue, WeekTested, Stands, Tested, Judged, Fronts, Rooted};
+ghost use Rattle.bound.specs.Tests.{someStartless, Permits, RunsOf};
 
-// A start holds, and the weeks cost this much with it; or it fails, by the starts of these units.
+// A start holds, and the lower bound with it is this; or it fails, by the starts of these units.
 pub enum Trial {
     Holds(Euro),
     Fails(u32),
-}
-
-// ---- what is known before the walk
-
-// The smaller of two costs.
-fn smaller(a: Euro, b: Euro) -> Euro
-    ensures { λ r. ⌜ (r .0 ≤ a .0) × (r .0 ≤ b .0) ⌝ }
-{
-    if a.0 < b.0 {
-        return a;
-    }
-    b
-}
-
-// At most what unit i's overhaul costs from any permitted start.
-fn least_upkeep(words: &[u32], l: Layout, i: usize) -> Euro
-    requires { ⌜ Filed (now words) l ⌝ }
-    requires { ⌜ i < l .units ⌝ }
-    ensures { λ r. ⌜ LeastFrom (problemOf (now (words .entry))) i (r .0) × (r .0 ≤ 13000000) ⌝ }
-{
-    let starts = overhaul::starts_of(words, l, i);
-    // No overhaul costs more: 52 weeks at 250,000.
-    let mut least = Euro(13000000);
-    for s in starts.first..starts.last + 1 {
-        let cost = overhaul::upkeep(words, l, i, s);
-        least = smaller(least, cost);
-    }
-    least
-}
-
-// At place k what the units below k cost at least, whatever their starts.
-pub fn floors(words: &[u32], l: Layout) -> [u64; 17]
-    requires { ⌜ Filed (now words) l ⌝ }
-    ensures { λ r. ⌜ Floors (problemOf (now (words .entry))) (l .units) r ⌝ }
-{
-    let units = l.units;
-    let mut table: [u64; 17] = [0; 17];
-    for i in 0..units {
-        let least = least_upkeep(words, l, i);
-        let sum = Euro(table[i]).plus(least);
-        table[i + 1] = sum.0;
-    }
-    table
-}
-
-// At place i the units that form an excluded pair with unit i.
-pub fn clashes(words: &[u32], l: Layout) -> [u32; 16]
-    requires { ⌜ Filed (now words) l ⌝ }
-    ensures { λ r. ⌜ Clashes (problemOf (now (words .entry))) (l .units) r ⌝ }
-{
-    let units = l.units;
-    let mut table: [u32; 16] = [0; 16];
-    for i in 0..units {
-        table[i] = instance::partners(words, l, i);
-    }
-    table
 }
 
 // ---- row words
@@ -147,169 +93,225 @@ pub fn no_rows() -> [u64; 52]
 
 // ---- tests of a start
 
-// A sum in which one week's tally and run give way to others.
-fn exchanged(sum: Euro, y: Tally, before: Euro, z: Tally, after: Euro) -> Euro
-    requires { ⌜ (y .cost .0 + before .0 ≤ sum .0) × (sum .0 ≤ 1099511627776) × (z .cost .0 + after .0 ≤ 1099511627776) ⌝ }
-    ensures { λ r. ⌜ r .0 + (y .cost .0 + before .0) ≡ sum .0 + (z .cost .0 + after .0) ⌝ }
-{
-    Euro(sum.0 + (z.cost.0 + after.0) - (y.cost.0 + before.0))
-}
-
-// Week t with the units of z out instead of those of y: a run that meets the demand (1), and what the week then adds.
-fn served(
-    words: &[u32],
-    l: Layout,
-    t: usize,
-    y: Tally,
-    z: Tally,
-    sum: Euro,
-    memo: &mut [u32],
-) -> Trial
-    requires { ⌜ Filed (now words) l ⌝ }
-    requires { ⌜ t < l .weeks ⌝ }
-    requires { ⌜ ServeDue (problemOf (now words)) t y z (sum .0) ⌝ }
-    requires { ⌜ Right (problemOf (now words)) (now memo) ⌝ }
-    ensures answer { λ r. ⌜ Served (problemOf (now (words .entry))) t y z (sum .0) r ⌝ }
-    ensures right { λ r. ⌜ Right (problemOf (now (words .entry))) (now (memo .exit)) ⌝ }
-{
-    let blamed = z.out;
-    let after = memo::least_cost(words, l, t, blamed, memo);
-    // 2^28 stands for no run.
-    if 268435456 <= after.0 {
-        return Trial::Fails(blamed);
-    }
-    let before = memo::least_cost(words, l, t, y.out, memo);
-    Trial::Holds(exchanged(sum, y, before, z, after))
-}
-
-// Week t with unit j out as well: the excluded pairs (8), the crews (7), a run that meets the demand (1); and what the week then adds.
+// Week t with unit j out as well: the excluded pairs (8), the crews (7), a run that meets the demand (1); and what the week is worth then.
 fn test_week(
     words: &[u32],
     l: Layout,
+    prices: &[u32; 832],
+    clashes: &[u32; 16],
     j: usize,
     t: usize,
     word: u64,
-    clash: u32,
-    sum: Euro,
     memo: &mut [u32],
 ) -> Trial
     requires { ⌜ Filed (now words) l ⌝ }
     requires { ⌜ (t < l .weeks) × (j < l .units) ⌝ }
-    requires { ⌜ WeekDue (problemOf (now words)) j t word clash (sum .0) ⌝ }
-    requires { ⌜ Right (problemOf (now words)) (now memo) ⌝ }
-    ensures answer { λ r. ⌜ WeekTested (problemOf (now (words .entry))) j t word (sum .0) r ⌝ }
-    ensures right { λ r. ⌜ Right (problemOf (now (words .entry))) (now (memo .exit)) ⌝ }
+    requires { ⌜ Prices (now prices) × Clashes (problemOf (now words)) (l .units) (now clashes) ⌝ }
+    requires { ⌜ WeekDue (problemOf (now words)) j t word ⌝ }
+    requires { ⌜ Recalls (problemOf (now words)) (priceIn (now prices)) (now memo) ⌝ }
+    ensures answer { λ r. ⌜ WeekTested (problemOf (now (words .entry))) (priceIn (now (prices .entry))) j t word r ⌝ }
+    ensures recalls { λ r. ⌜ Recalls (problemOf (now (words .entry))) (priceIn (now (prices .entry))) (now (memo .exit)) ⌝ }
 {
     let y = tally(word);
+    let clash = clashes[j];
     let both = sets::intersection(y.out, clash);
     if both != 0 {
         return Trial::Fails(sets::with(both, j));
     }
     let z = y.with_unit(words, l, t, j);
+    let out = z.out;
     if instance::crews(words, l) < z.count {
-        return Trial::Fails(z.out);
+        return Trial::Fails(out);
     }
-    served(words, l, t, y, z, sum, memo)
+    let worth = relaxation::week_value(words, l, prices, clashes, t, out, memo);
+    // 2^28 stands for no run.
+    if 268435456 <= worth.0 {
+        return Trial::Fails(out);
+    }
+    Trial::Holds(worth)
 }
 
-// Unit j at its start, on the weeks of its overhaul.
+// A bound in which one week's worth gives way to another.
+fn exchanged(sum: Euro, before: u32, after: Euro) -> Euro
+    requires { ⌜ (sum .0 ≤ 1099511627776) × (after .0 ≤ 268435456) ⌝ }
+    ensures { λ r. ⌜ r .0 ≡ sum .0 + after .0 - before ⌝ }
+{
+    let more = sum.0 + after.0;
+    let less = before as u64;
+    if more < less {
+        return Euro(0);
+    }
+    Euro(more - less)
+}
+
+// Unit j at its start, on the weeks of its overhaul, as far as the bound stays below what is wanted.
 fn test_weeks(
     words: &[u32],
     l: Layout,
+    prices: &[u32; 832],
+    clashes: &[u32; 16],
+    costs: &[u32; 1024],
+    roots: &[u32; 53],
     rows: &[u64; 52],
     starts: [u8; 16],
     j: usize,
-    clash: u32,
     sum: Euro,
+    wanted: Euro,
+    worths: &mut [u32],
     memo: &mut [u32],
 ) -> Trial
     requires { ⌜ Filed (now words) l ⌝ }
-    requires { ⌜ Due (problemOf (now words)) (now rows) (startIn starts) j ⌝ }
-    requires { ⌜ Stands (problemOf (now words)) (startIn starts) j (sum .0) ⌝ }
-    requires { ⌜ Clash (problemOf (now words)) j clash ⌝ }
-    requires { ⌜ Right (problemOf (now words)) (now memo) ⌝ }
-    ensures answer { λ r. ⌜ Tested (problemOf (now (words .entry))) (startIn starts) j r ⌝ }
-    ensures right { λ r. ⌜ Right (problemOf (now (words .entry))) (now (memo .exit)) ⌝ }
+    requires { ⌜ Dual (problemOf (now words)) (now prices) (now clashes) (now costs) (now roots) ⌝ }
+    requires { ⌜ Due (problemOf (now words)) (now rows) (startIn starts) j × Standing (problemOf (now words)) (startIn starts) j ⌝ }
+    requires { ⌜ Bounds (problemOf (now words)) (priceIn (now prices)) (now costs) (firstUnits (j + 1)) (startIn starts) (now worths) (sum .0) ⌝ }
+    requires { ⌜ Recalls (problemOf (now words)) (priceIn (now prices)) (now memo) ⌝ }
+    ensures answer { λ r. ⌜ Tested (problemOf (now (words .entry))) (priceIn (now (prices .entry))) (now (costs .entry)) (startIn starts) j (wanted .0)
+        (now (worths .exit)) r ⌝ }
+    ensures recalls { λ r. ⌜ Recalls (problemOf (now (words .entry))) (priceIn (now (prices .entry))) (now (memo .exit)) ⌝ }
 {
     let first = starts[j] as usize - 1;
     let weeks = instance::duration(words, l, j);
     let mut total = sum;
     for n in 0..weeks {
+        if wanted.0 <= total.0 {
+            return Trial::Holds(total);
+        }
         let t = first + n;
-        let v = test_week(words, l, j, t, rows[t], clash, total, memo);
+        let v = test_week(words, l, prices, clashes, j, t, rows[t], memo);
         match v {
             Trial::Fails(b) => {
                 return Trial::Fails(b);
             }
-            Trial::Holds(more) => {
-                total = more;
+            Trial::Holds(worth) => {
+                total = exchanged(total, worths[t], worth);
+                worths[t] = worth.0 as u32;
             }
         }
     }
     Trial::Holds(total)
 }
 
-// The lower bound of what is placed below k against the limit: the weeks as they stand, and the other units at their least.
-fn weighed(floors: &[u64; 17], units: usize, k: usize, sum: Euro, limit: Euro) -> Trial
-    requires { ⌜ (k ≤ units) × (units ≤ 16) ⌝ }
-    requires { ⌜ (sum .0 ≤ 1099511627776) × (limit .0 ≤ 268435456) ⌝ }
-    requires { ⌜ Steps units (now floors) ⌝ }
-    ensures { λ r. ⌜ Weighed (now (floors .entry)) units k (sum .0) (limit .0) r ⌝ }
-{
-    let wanted = limit.plus(Euro(floors[k]));
-    let bound = sum.plus(Euro(floors[units]));
-    if wanted.0 <= bound.0 {
-        return Trial::Fails(sets::below(k));
-    }
-    Trial::Holds(sum)
-}
-
-// Unit j at its start, with the units below it as the rows have them: the rules in the weeks of its overhaul, then the cost.
+// Unit j at its start, with the units below it as the rows have them: the rules in the weeks of its overhaul, and the lower bound. The worths of the
+// weeks are those without the unit before, and those with it after where it holds.
 pub fn test(
     words: &[u32],
     l: Layout,
-    floors: &[u64; 17],
+    prices: &[u32; 832],
     clashes: &[u32; 16],
+    costs: &[u32; 1024],
+    roots: &[u32; 53],
     rows: &[u64; 52],
     starts: [u8; 16],
     j: usize,
     sum: Euro,
     limit: Euro,
+    worths: &mut [u32],
     memo: &mut [u32],
 ) -> Trial
     requires { ⌜ Filed (now words) l ⌝ }
-    requires { ⌜ Floors (problemOf (now words)) (l .units) (now floors) × Clashes (problemOf (now words)) (l .units) (now clashes) ⌝ }
+    requires { ⌜ Dual (problemOf (now words)) (now prices) (now clashes) (now costs) (now roots) ⌝ }
     requires { ⌜ Due (problemOf (now words)) (now rows) (startIn starts) j ⌝ }
-    requires { ⌜ Stands (problemOf (now words)) (startIn starts) j (sum .0) × (limit .0 ≤ 268435456) ⌝ }
-    requires { ⌜ Right (problemOf (now words)) (now memo) ⌝ }
-    ensures answer { λ r. ⌜ Judged (problemOf (now (words .entry))) (startIn starts) (j + 1) (limit .0) r ⌝ }
-    ensures right { λ r. ⌜ Right (problemOf (now (words .entry))) (now (memo .exit)) ⌝ }
+    requires { ⌜ Stands (problemOf (now words)) (priceIn (now prices)) (now costs) (startIn starts) j (now worths) (sum .0) × (limit .0 ≤ 268435456) ⌝ }
+    requires { ⌜ Recalls (problemOf (now words)) (priceIn (now prices)) (now memo) ⌝ }
+    ensures answer { λ r. ⌜ Judged (problemOf (now (words .entry))) (priceIn (now (prices .entry))) (now (costs .entry)) (startIn starts) (j + 1) (limit .0)
+        (now (worths .exit)) r ⌝ }
+    ensures recalls { λ r. ⌜ Recalls (problemOf (now (words .entry))) (priceIn (now (prices .entry))) (now (memo .exit)) ⌝ }
 {
-    let v = test_weeks(words, l, rows, starts, j, clashes[j], sum, memo);
+    let start = starts[j] as usize;
+    let wanted = dual::wanted(roots, limit);
+    let more = sum.plus(dual::excess(costs, j, start));
+    let v = test_weeks(
+        words,
+        l,
+        prices,
+        clashes,
+        costs,
+        roots,
+        rows,
+        starts,
+        j,
+        more,
+        wanted,
+        worths,
+        memo,
+    );
     match v {
         Trial::Fails(b) => Trial::Fails(b),
-        Trial::Holds(more) => weighed(floors, l.units, j + 1, more, limit),
+        Trial::Holds(total) => {
+            if total.0 < wanted.0 {
+                return Trial::Holds(total);
+            }
+            Trial::Fails(dual::blamed(
+                words,
+                l,
+                prices,
+                clashes,
+                costs,
+                roots,
+                starts,
+                j + 1,
+                total,
+                limit,
+                worths,
+            ))
+        }
     }
 }
 
-// What the weeks cost when nobody is out; or no schedule is below the limit at all.
-pub fn root(words: &[u32], l: Layout, floors: &[u64; 17], limit: Euro, memo: &mut [u32]) -> Trial
+// ---- before any unit is placed
+
+// What all overhauls cost at least.
+fn least_sum(words: &[u32], l: Layout, costs: &[u32; 1024]) -> Euro
     requires { ⌜ Filed (now words) l ⌝ }
-    requires { ⌜ Floors (problemOf (now words)) (l .units) (now floors) × (limit .0 ≤ 268435456) ⌝ }
-    requires { ⌜ Right (problemOf (now words)) (now memo) ⌝ }
-    ensures answer { λ r. ⌜ Rooted (problemOf (now (words .entry))) (limit .0) r ⌝ }
-    ensures right { λ r. ⌜ Right (problemOf (now (words .entry))) (now (memo .exit)) ⌝ }
+    ensures { λ r. ⌜ (r .0 ≡ sumTo (problemOf (now (words .entry)) .units) (leastIn (now (costs .entry)))) × (r .0 ≤ 68719476736) ⌝ }
+{
+    let units = l.units;
+    let mut sum = Euro(0);
+    for i in 0..units {
+        sum = sum.plus(dual::excess(costs, i, 0));
+    }
+    sum
+}
+
+// The lower bound with nobody out; or no schedule is below the limit at all.
+pub fn root(
+    words: &[u32],
+    l: Layout,
+    prices: &[u32; 832],
+    clashes: &[u32; 16],
+    costs: &[u32; 1024],
+    roots: &[u32; 53],
+    limit: Euro,
+) -> Trial
+    requires { ⌜ Filed (now words) l ⌝ }
+    requires { ⌜ Dual (problemOf (now words)) (now prices) (now clashes) (now costs) (now roots) × (limit .0 ≤ 268435456) ⌝ }
+    ensures { λ r. ⌜ Rooted (problemOf (now (words .entry))) (priceIn (now (prices .entry))) (now (costs .entry)) (now (roots .entry)) (limit .0) r ⌝ }
 {
     let weeks = l.weeks;
-    let mut sum = Euro(0);
+    let wanted = dual::wanted(roots, limit);
+    let mut sum = least_sum(words, l, costs);
     for t in 0..weeks {
-        let more = memo::least_cost(words, l, t, 0, memo);
-        if 268435456 <= more.0 {
+        let worth = dual::euros(roots[t]);
+        if 268435456 <= worth.0 {
             return Trial::Fails(0);
         }
-        sum = sum.plus(more);
+        sum = sum.plus(worth);
     }
-    weighed(floors, l.units, 0, sum, limit)
+    if wanted.0 <= sum.0 {
+        return Trial::Fails(0);
+    }
+    Trial::Holds(sum)
+}
+
+// What each week is worth with nobody out.
+pub fn first_worths(roots: &[u32; 53]) -> [u32; 52]
+    ensures { λ r. ⌜ Fronts (now (roots .entry)) r ⌝ }
+{
+    let mut table: [u32; 52] = [0; 52];
+    for t in 0..52 {
+        table[t] = roots[t];
+    }
+    table
 }
 
 // Whether some unit has no permitted start.
@@ -325,6 +327,54 @@ pub fn startless(words: &[u32], l: Layout) -> bool
         }
     }
     false
+}
+
+// ---- all units placed
+
+// What week t costs with the units of a row word out: their maintenance, and the cheapest run of the others.
+fn week_cost(
+    words: &[u32],
+    l: Layout,
+    prices: &[u32; 832],
+    t: usize,
+    word: u64,
+    memo: &mut [u32],
+) -> Euro
+    requires { ⌜ Filed (now words) l ⌝ }
+    requires { ⌜ t < l .weeks ⌝ }
+    requires { ⌜ Tallies (problemOf (now words)) t (tallyOf word) ⌝ }
+    requires { ⌜ Recalls (problemOf (now words)) (priceIn (now prices)) (now memo) ⌝ }
+    ensures answer { λ r. ⌜ (r .0 ≡ outCost (problemOf (now (words .entry))) t (has (word % 65536)) + leastCost (problemOf (now (words .entry))) t (has (word % 65536)))
+        × (r .0 ≤ 272435456) ⌝ }
+    ensures recalls { λ r. ⌜ Recalls (problemOf (now (words .entry))) (priceIn (now (prices .entry))) (now (memo .exit)) ⌝ }
+{
+    let y = tally(word);
+    let out = y.out;
+    let run = memo::least_cost(words, l, t, out, memo);
+    y.cost.plus(run)
+}
+
+// What all weeks cost with the units of the rows out.
+pub fn cost(
+    words: &[u32],
+    l: Layout,
+    prices: &[u32; 832],
+    rows: &[u64; 52],
+    starts: [u8; 16],
+    memo: &mut [u32],
+) -> Euro
+    requires { ⌜ Filed (now words) l ⌝ }
+    requires { ⌜ Rows (problemOf (now words)) (placed (problemOf (now words)) (startIn starts) (l .units)) (now rows) ⌝ }
+    requires { ⌜ Recalls (problemOf (now words)) (priceIn (now prices)) (now memo) ⌝ }
+    ensures answer { λ r. ⌜ r .0 ≡ paid (problemOf (now (words .entry))) (placed (problemOf (now (words .entry))) (startIn starts) (l .units)) ⌝ }
+    ensures recalls { λ r. ⌜ Recalls (problemOf (now (words .entry))) (priceIn (now (prices .entry))) (now (memo .exit)) ⌝ }
+{
+    let weeks = l.weeks;
+    let mut sum = Euro(0);
+    for t in 0..weeks {
+        sum = sum.plus(week_cost(words, l, prices, t, rows[t], memo));
+    }
+    sum
 }
 
 // ---- the runs of a schedule

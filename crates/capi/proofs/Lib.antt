@@ -1,2 +1,2 @@
--- answers as numbers
-pub mod CodeLaws
+-- answers that are equal, in what they leave in lent memory
+pub mod ExportLaws

@@ -1,7 +1,8 @@
 // The functions that Rust and C link: numbers and slices only, no `requires`. A load, a read or a drawing answers with the refusal's number, 0
 // for none; a load's place is always 0, and a read's has a function of its own. The sizing figure of a refused file is 0. A judgement is
 // one number, and its refusal's place has a function of its own. A quote is one number too; its refusals are the file's, so the read's place serves,
-// as it does for a list of week costs. A run of asks has its refusal's number, and the place from a function of its own.
+// as it does for a list of week costs. A run of asks has its refusal's number, and the place from a function of its own. Each calls one function
+// below and leaves it to `codes` to turn the answer into a number.
 ghost use mathlib.Core.Path.{_≡_};
 ghost use lib.ListN.{length};
 ghost use Rattle.model.specs.Bytes.{loadOf, loadedInto};
@@ -13,84 +14,8 @@ ghost use Rattle.model.specs.Drawing.{drawVerdict, drawnInto};
 ghost use Rattle.model.specs.Judgement.{judgeOf};
 ghost use Rattle.model.specs.Refusal.{runVerdict};
 ghost use Rattle.model.specs.Asks.{Outcome};
-ghost use Rattle.decoder.specs.Answers.{verdictOf, replyOf};
-ghost use Rattle.checker.specs.Answers.{judgementOf};
 ghost use Rattle.quotes.specs.Quotes.{quoteWith, runQuote, upkeepQuote, costsVerdict, costsInto, KeptIfRefused};
-ghost use Rattle.quotes.specs.Answers.{quotedOf};
-ghost use Rattle.capi.specs.Codes.{refusedBy, refusedAt, deniedBy, given, judgedCode, judgedPlace, quotedCode};
-
-// The number of a verdict's refusal.
-fn refusal_number(v: decoder::Verdict) -> u32
-    ensures { λ r. ⌜ r ≡ refusedBy (verdictOf v) ⌝ }
-{
-    match v {
-        decoder::Verdict::Accepted => 0,
-        decoder::Verdict::Refused(number, place) => number,
-    }
-}
-
-// The place of a verdict's refusal.
-fn refusal_place(v: decoder::Verdict) -> usize
-    ensures { λ r. ⌜ r ≡ refusedAt (verdictOf v) ⌝ }
-{
-    match v {
-        decoder::Verdict::Accepted => 0,
-        decoder::Verdict::Refused(number, place) => place,
-    }
-}
-
-// The number of a reply's refusal.
-fn denial_number(reply: decoder::Reply) -> u32
-    ensures { λ r. ⌜ r ≡ deniedBy (replyOf reply) ⌝ }
-{
-    match reply {
-        decoder::Reply::Number(n) => 0,
-        decoder::Reply::Denied(number, place) => number,
-    }
-}
-
-// The number that a reply gives, 0 where it is a refusal.
-fn number_given(reply: decoder::Reply) -> usize
-    ensures { λ r. ⌜ r ≡ given (replyOf reply) ⌝ }
-{
-    match reply {
-        decoder::Reply::Number(n) => n,
-        decoder::Reply::Denied(number, place) => 0,
-    }
-}
-
-// A judgement as one number.
-fn judgement_code(j: checker::Judgement) -> u64
-    ensures { λ r. ⌜ r ≡ judgedCode (judgementOf j) ⌝ }
-{
-    match j {
-        checker::Judgement::Sound(cost) => cost,
-        checker::Judgement::Breaks(number) => 4294967296 + number as u64,
-        checker::Judgement::Rejected(number, place) => 8589934592 + number as u64,
-    }
-}
-
-// The place of a judgement's refusal.
-fn judgement_place(j: checker::Judgement) -> usize
-    ensures { λ r. ⌜ r ≡ judgedPlace (judgementOf j) ⌝ }
-{
-    match j {
-        checker::Judgement::Sound(cost) => 0,
-        checker::Judgement::Breaks(number) => 0,
-        checker::Judgement::Rejected(number, place) => place,
-    }
-}
-
-// A quote as one number.
-fn quote_code(quote: quotes::Quote) -> u64
-    ensures { λ r. ⌜ r ≡ quotedCode (quotedOf quote) ⌝ }
-{
-    match quote {
-        quotes::Quote::Nothing => 4611686018427387904,
-        quotes::Quote::Given(number, cost) => cost as u64 * 4294967296 + number as u64,
-        quotes::Quote::Refused(number, place) => 9223372036854775808 + number as u64,
-    }
-}
+ghost use Rattle.codes.specs.Codes.{refusedBy, refusedAt, deniedBy, given, judgedCode, judgedPlace, quotedCode};
 
 // Bytes to words: the refusal's number, 0 where a word for each four bytes was written. Its place is always 0.
 #[no_mangle]
@@ -100,7 +25,7 @@ pub extern "C" fn novelbrisca_load(bytes: &[u8], words: &mut [u32]) -> u32
         loadedInto (loadOf (now (bytes .entry)) (length (now (words .entry)))) (now (bytes .entry)) (now (words .entry)) ⌝ }
 {
     let reply = decoder::load(bytes, words);
-    denial_number(reply)
+    codes::denial_number(reply)
 }
 
 // A plan file: the refusal's number, 0 where it is accepted.
@@ -109,7 +34,7 @@ pub extern "C" fn novelbrisca_read(words: &[u32]) -> u32
     ensures { λ r. ⌜ r ≡ refusedBy (readOf (now (words .entry))) ⌝ }
 {
     let v = decoder::read(words);
-    refusal_number(v)
+    codes::refusal_number(v)
 }
 
 // The place of that refusal, 0 where the file is accepted.
@@ -118,7 +43,7 @@ pub extern "C" fn novelbrisca_read_place(words: &[u32]) -> usize
     ensures { λ r. ⌜ r ≡ refusedAt (readOf (now (words .entry))) ⌝ }
 {
     let v = decoder::read(words);
-    refusal_place(v)
+    codes::refusal_place(v)
 }
 
 // The sizing figure, 0 where the file is refused; number and place are then those of the file.
@@ -127,7 +52,7 @@ pub extern "C" fn novelbrisca_sizing(words: &[u32]) -> usize
     ensures { λ r. ⌜ r ≡ given (sizingOf (now (words .entry))) ⌝ }
 {
     let reply = decoder::sizing(words);
-    number_given(reply)
+    codes::number_given(reply)
 }
 
 // A grid: the cost where it is sound, 2^32 and the smallest number among the formulas broken, or 2^33 and the refusal's number. A cost is far
@@ -137,7 +62,7 @@ pub extern "C" fn novelbrisca_judge(words: &[u32], grid: &[u8]) -> u64
     ensures { λ r. ⌜ r ≡ judgedCode (judgeOf (now (words .entry)) (now (grid .entry))) ⌝ }
 {
     let j = checker::judge(words, grid);
-    judgement_code(j)
+    codes::judgement_code(j)
 }
 
 // The place of that refusal, 0 where the grid is judged.
@@ -146,7 +71,7 @@ pub extern "C" fn novelbrisca_judge_place(words: &[u32], grid: &[u8]) -> usize
     ensures { λ r. ⌜ r ≡ judgedPlace (judgeOf (now (words .entry)) (now (grid .entry))) ⌝ }
 {
     let j = checker::judge(words, grid);
-    judgement_place(j)
+    codes::judgement_place(j)
 }
 
 // A schedule laid out as a grid in the lent bytes: the refusal's number, 0 where the grid was written. The place is that of
@@ -164,7 +89,7 @@ pub extern "C" fn novelbrisca_draw(
         (scheduleOf (now (starts .entry)) (now (runs .entry))) (now (grid .entry)) ⌝ }
 {
     let verdict = schedule::draw(words, starts, runs, grid);
-    refusal_number(verdict)
+    codes::refusal_number(verdict)
 }
 
 // The cheapest run of a week, from 1, with these units out: its cost times 2^32 and its number, 2^62 where there is none, or 2^63 and the number
@@ -174,7 +99,7 @@ pub extern "C" fn novelbrisca_cheapest_run(words: &[u32], week: usize, out: u32)
     ensures { λ r. ⌜ r ≡ quotedCode (quoteWith (readOf (now (words .entry))) (runQuote (problemOf (now (words .entry))) week out)) ⌝ }
 {
     let quote = quotes::cheapest_run(words, week, out);
-    quote_code(quote)
+    codes::quote_code(quote)
 }
 
 // What the overhaul of a unit, from 1, costs in maintenance from a permitted start: the cost times 2^32 and the start, 2^62 where there is no
@@ -184,7 +109,7 @@ pub extern "C" fn novelbrisca_upkeep(words: &[u32], unit: usize, start: usize) -
     ensures { λ r. ⌜ r ≡ quotedCode (quoteWith (readOf (now (words .entry))) (upkeepQuote (problemOf (now (words .entry))) unit start)) ⌝ }
 {
     let quote = quotes::upkeep(words, unit, start);
-    quote_code(quote)
+    codes::quote_code(quote)
 }
 
 // What the cheapest runs of queried weeks cost, in the lent words: the refusal's number, 0 where they were written. A query is a week, from 1,
@@ -206,7 +131,7 @@ pub extern "C" fn novelbrisca_week_costs(
         (now (scratch .entry)) (now (scratch .exit)) ⌝ }
 {
     let verdict = quotes::week_costs(words, queries, scratch, costs);
-    refusal_number(verdict)
+    codes::refusal_number(verdict)
 }
 
 // A run of asks, each answered in its block of the lent words: the refusal's number, 0 where all were answered.
@@ -226,7 +151,7 @@ pub extern "C" fn novelbrisca_run(
         (now (answers .exit)) (now (table .exit)) (now (scratch .exit)) ⌝ }
 {
     let verdict = planner::run(words, asks, answers, table, scratch);
-    refusal_number(verdict)
+    codes::refusal_number(verdict)
 }
 
 // The place of that refusal, 0 where the asks are answered; lent memory by its numbers of words.
@@ -241,5 +166,5 @@ pub extern "C" fn novelbrisca_run_place(
     ensures { λ r. ⌜ r ≡ refusedAt (runVerdict (now (words .entry)) (now (asks .entry)) table answers scratch) ⌝ }
 {
     let verdict = asks::run_verdict(words, asks, table, answers, scratch);
-    refusal_place(verdict)
+    codes::refusal_place(verdict)
 }

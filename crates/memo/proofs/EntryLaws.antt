@@ -1,8 +1,9 @@
--- The memory's entries: emptied, found and written.
+-- The memory's entries: emptied, found and written; and what of them is still right after a write.
 -- Assumes nothing.
 use Prim.Native.Nat.{ℕ, _+_, _*_, _/_, _≤_, _<_}
-use mathlib.Core.Path.{_≡_, sym, ap, _∙_, subst}
+use mathlib.Core.Path.{_≡_, refl, sym, ap, _∙_, subst}
 use mathlib.Core.List.{List}
+use mathlib.Core.Logic.{_⊎_, inl, inr, ⊎-elim}
 use native.Mathlib.Decide.{ℕ-discrete}
 use native.Mathlib.Omega.{arith}
 use lib.ListN.{getD, set, length, replicate, length-set}
@@ -15,70 +16,132 @@ use Rattle.model.specs.Words.{problemOf}
 use Rattle.model.specs.Commitment.{leastCost}
 use Rattle.instance.specs.Filed.{Filed}
 use Rattle.commitment.proofs.ScoreLaws.{least-small}
-use Rattle.memo.specs.Memo.{keyOf, Right}
+use Rattle.memo.specs.declared.Kept.{Kept}
+use Rattle.memo.specs.declared.Kept.the-variants.{Word}
+use Rattle.memo.specs.Memo.{Entry, Present, Looked, Wrote, OTHERS, Others, keyOf, Right}
 
 -- ---- an emptied memory
 
--- it is right: 0 is no key
+-- it has only the key 0
+pub empty-key : (memo : List ℕ) (n e : ℕ) → memo ≡ replicate n 0 → getD memo (e * 2) 0 ≡ 0
+empty-key memo n e is = subst (λ (m : List ℕ). getD m (e * 2) 0 ≡ 0) (sym is) (zeros-at n (e * 2))
+
+-- so it is right
 pub right-empty : (p : Problem) (memo : List ℕ) (n : ℕ) → memo ≡ replicate n 0 → Right p memo
 unfolding keyOf
-right-empty p memo n is = subst (Right p) (sym is) (record { holds = λ e t out l z. absurd (omega (arith, z, zeros-at n (e * 2))) })
+right-empty p memo n is = record { holds = λ e t out b l z. absurd (omega (arith, z, empty-key memo n e is)) }
 
--- ---- an entry found
+-- ---- a key looked up
 
-module _ (ws memo : List ℕ) (t out key e r : ℕ) (k : key ≡ keyOf t out) (z : getD memo (e * 2) 0 ≡ key) (w : r ≡ getD memo (e * 2 + 1) 0)
-    (m : Right (problemOf ws) memo) (b : out < 65536) where
-  -- it has the key's own cost
-  pub hit-cost : r ≡ leastCost (problemOf ws) t (has out)
-  hit-cost = w ∙ m .holds e t out b (z ∙ k)
+-- the entry where the key belongs has it
+pub looked-hit : (memo : List ℕ) (e key : ℕ) → getD memo (e * 2) 0 ≡ key → Present memo key (getD memo (e * 2 + 1) 0)
+looked-hit memo e key k = record { at = e; entry = record { under = k; kept = refl } }
+
+module _ (ws memo : List ℕ) (l : Layout) (t out key v : ℕ) (found : Kept) (f : Filed ws l) (h : t < l .weeks) (b : out < 65536)
+    (k : key ≡ keyOf t out) (m : Right (problemOf ws) memo) (looked : Looked memo key found) (is : found ≡ Word v) where
+  present : Present memo key v
+  present = subst (Looked memo key) is looked
+
+  -- what is found under a week's key is its least cost
+  pub found-cost : v ≡ leastCost (problemOf ws) t (has out)
+  found-cost =
+      sym (present .entry .kept) ∙ m .holds (present .at) t out (omega (arith, f .weeks-most)) b (present .entry .under ∙ k)
 
   -- which is no more than what stands for none
-  pub hit-small : (l : Layout) → Filed ws l → t < l .weeks → r ≤ 268435456
-  hit-small l f h = omega (arith, hit-cost, least-small ws l t f h (has out))
+  pub found-small : v ≤ 268435456
+  found-small = omega (arith, found-cost, least-small ws l t f h (has out))
 
--- ---- an entry written
+-- ---- a word written
 
--- keys tell the week and the set
-keys-week : (t out t′ out′ : ℕ) → out < 65536 → out′ < 65536 → keyOf t out ≡ keyOf t′ out′ → t ≡ t′
-unfolding keyOf
-keys-week t out t′ out′ l l′ e = omega arith
+-- nowhere, if there are no entries
+pub wrote-none : (memo : List ℕ) (key v : ℕ) → Wrote memo memo key v
+wrote-none memo key v = record { each = λ e. inl (record { under = refl; kept = refl }) }
 
-keys-set : (t out t′ out′ : ℕ) → out < 65536 → out′ < 65536 → keyOf t out ≡ keyOf t′ out′ → out ≡ out′
-unfolding keyOf
-keys-set t out t′ out′ l l′ e = omega arith
-
--- a new entry
-pub right-put : (p : Problem) (memo new : List ℕ) (t out key v e : ℕ) → Right p memo → out < 65536 → key ≡ keyOf t out → v ≡ leastCost p t (has out)
-    → e < length memo / 2 → new ≡ set (set memo (e * 2) key) (e * 2 + 1) v → Right p new
-right-put p memo new t out key v e r l k w long is =
-    subst (Right p) (sym is) (record { holds = λ e′ t′ out′ l′ z. by e′ t′ out′ l′ z (ℕ-discrete e′ e) })
+-- into one entry
+pub wrote-one : (memo : List ℕ) (e key v : ℕ) → e < length memo / 2 → Wrote memo (set (set memo (e * 2) key) (e * 2 + 1) v) key v
+wrote-one memo e key v long = record { each = λ i. by i (ℕ-discrete i e) }
   where
-    wrote : List ℕ
-    wrote = set (set memo (e * 2) key) (e * 2 + 1) v
+    new : List ℕ
+    new = set (set memo (e * 2) key) (e * 2 + 1) v
 
-    first : getD wrote (e * 2) 0 ≡ key
-    first =
-        let ne : e * 2 ≡ e * 2 + 1 → ⊥ = λ z. omega arith in
-        let lo : e * 2 < length memo = omega arith in
-        getD-set-other (set memo (e * 2) key) (e * 2 + 1) (e * 2) v 0 ne ∙ getD-set-same memo (e * 2) key 0 lo
-
-    second : getD wrote (e * 2 + 1) 0 ≡ v
-    second = getD-set-same (set memo (e * 2) key) (e * 2 + 1) v 0 (let n = length-set memo (e * 2) key in omega arith)
-
-    other : (j : ℕ) → (j ≡ e * 2 → ⊥) → (j ≡ e * 2 + 1 → ⊥) → getD wrote j 0 ≡ getD memo j 0
+    other : (j : ℕ) → (j ≡ e * 2 → ⊥) → (j ≡ e * 2 + 1 → ⊥) → getD new j 0 ≡ getD memo j 0
     other j a b = getD-set-other (set memo (e * 2) key) (e * 2 + 1) j v 0 b ∙ getD-set-other memo (e * 2) j key 0 a
 
-    by : (e′ t′ out′ : ℕ) → out′ < 65536 → getD wrote (e′ * 2) 0 ≡ keyOf t′ out′ → Dec (e′ ≡ e)
-        → getD wrote (e′ * 2 + 1) 0 ≡ leastCost p t′ (has out′)
-    by e′ t′ out′ l′ z (yes f) =
-        let g : getD wrote (e * 2) 0 ≡ keyOf t′ out′ = subst (λ (x : ℕ). getD wrote (x * 2) 0 ≡ keyOf t′ out′) f z in
-        let q : keyOf t out ≡ keyOf t′ out′ = sym k ∙ sym first ∙ g in
-        ap (λ (x : ℕ). getD wrote (x * 2 + 1) 0) f ∙ second ∙ w
-        ∙ ap (λ (x : ℕ). leastCost p x (has out)) (keys-week t out t′ out′ l l′ q)
-        ∙ ap (λ (x : ℕ). leastCost p t′ (has x)) (keys-set t out t′ out′ l l′ q)
-    by e′ t′ out′ l′ z (no f) =
-        let a : e′ * 2 ≡ e * 2 → ⊥ = λ y. f (omega arith) in
-        let b : e′ * 2 ≡ e * 2 + 1 → ⊥ = λ y. omega arith in
-        let c : e′ * 2 + 1 ≡ e * 2 → ⊥ = λ y. omega arith in
-        let d : e′ * 2 + 1 ≡ e * 2 + 1 → ⊥ = λ y. f (omega arith) in
-        other (e′ * 2 + 1) c d ∙ r .holds e′ t′ out′ l′ (sym (other (e′ * 2) a b) ∙ z)
+    at-it : Entry new e key v
+    at-it =
+        let ne : e * 2 ≡ e * 2 + 1 → ⊥ = λ z. omega arith in
+        let lo : e * 2 < length memo = omega arith in
+        let hi : e * 2 + 1 < length (set memo (e * 2) key) = omega (arith, length-set memo (e * 2) key) in
+        record {
+          under = getD-set-other (set memo (e * 2) key) (e * 2 + 1) (e * 2) v 0 ne ∙ getD-set-same memo (e * 2) key 0 lo;
+          kept = getD-set-same (set memo (e * 2) key) (e * 2 + 1) v 0 hi;
+        }
+
+    by : (i : ℕ) → Dec (i ≡ e) → Entry new i (getD memo (i * 2) 0) (getD memo (i * 2 + 1) 0) ⊎ Entry new i key v
+    by i (yes z) = inr (subst (λ (j : ℕ). Entry new j key v) (sym z) at-it)
+    by i (no z) =
+        let a : i * 2 ≡ e * 2 → ⊥ = λ y. z (omega arith) in
+        let b : i * 2 ≡ e * 2 + 1 → ⊥ = λ y. omega arith in
+        let c : i * 2 + 1 ≡ e * 2 → ⊥ = λ y. omega arith in
+        let d : i * 2 + 1 ≡ e * 2 + 1 → ⊥ = λ y. z (omega arith) in
+        inl (record { under = other (i * 2) a b; kept = other (i * 2 + 1) c d })
+
+-- what holds of each entry, and of the new one, holds after a write
+pub wrote-all : (P : ℕ → ℕ → Type 0) (memo memo′ : List ℕ) (key v : ℕ) → Wrote memo memo′ key v
+    → ((e : ℕ) → P (getD memo (e * 2) 0) (getD memo (e * 2 + 1) 0)) → P key v → (e : ℕ) → P (getD memo′ (e * 2) 0) (getD memo′ (e * 2 + 1) 0)
+wrote-all P memo memo′ key v wrote old new e = ⊎-elim (λ h. moved _ _ h (old e)) (λ h. moved _ _ h new) (wrote .each e)
+  where
+    moved : (a b : ℕ) → Entry memo′ e a b → P a b → P (getD memo′ (e * 2) 0) (getD memo′ (e * 2 + 1) 0)
+    moved a b h holds = subst (P (getD memo′ (e * 2) 0)) (sym (h .kept)) (subst (λ (x : ℕ). P x b) (sym (h .under)) holds)
+
+-- ---- right after a write
+
+-- what an entry says of a week's least cost
+abbrev Says : Problem → ℕ → ℕ → Type 0
+Says p k w = (t out : ℕ) → t < 64 → out < 65536 → k ≡ keyOf t out → w ≡ leastCost p t (has out)
+
+module _ (p : Problem) (memo memo′ : List ℕ) (key v : ℕ) (right : Right p memo) (wrote : Wrote memo memo′ key v) where
+  right-says : Says p key v → Right p memo′
+  right-says new = record { holds = wrote-all (Says p) memo memo′ key v wrote (right .holds) new }
+
+  -- a week's least cost under its key; keys tell the week and the set
+  pub right-put : (t out : ℕ) → out < 65536 → key ≡ keyOf t out → v ≡ leastCost p t (has out) → Right p memo′
+  unfolding keyOf
+  right-put t out b k w = right-says (λ t′ out′ l′ b′ e. w ∙ ap (λ (x : ℕ). leastCost p x (has out)) (omega arith)
+      ∙ ap (λ (x : ℕ). leastCost p t′ (has x)) (omega arith))
+
+  -- another's word under another's key
+  pub right-kept : OTHERS < key → Right p memo′
+  unfolding keyOf
+  right-kept h = right-says (λ t out l b e. absurd (omega arith))
+
+-- ---- the entries under another's keys
+
+-- those of a memory that is left as it is
+pub others-same : (memo : List ℕ) → Others memo memo
+others-same memo = record { same = λ e h. record { under = refl; kept = refl } }
+
+-- after one change and another
+pub others-trans : (a b c : List ℕ) → Others a b → Others b c → Others a c
+others-trans a b c f g = record { same = λ e h. by e h (g .same e h) }
+  where
+    by : (e : ℕ) → OTHERS ≤ getD c (e * 2) 0 → Entry b e (getD c (e * 2) 0) (getD c (e * 2 + 1) 0)
+        → Entry a e (getD c (e * 2) 0) (getD c (e * 2 + 1) 0)
+    by e h was =
+        let old = f .same e (omega (arith, was .under)) in
+        record { under = old .under ∙ was .under; kept = old .kept ∙ was .kept }
+
+-- after a word written under a key that is not another's
+pub others-kept : (memo memo′ : List ℕ) (key v : ℕ) → Wrote memo memo′ key v → key < OTHERS → Others memo memo′
+others-kept memo memo′ key v wrote small = record { same = λ e h. by e h (wrote .each e) }
+  where
+    by : (e : ℕ) → OTHERS ≤ getD memo′ (e * 2) 0 → Entry memo′ e (getD memo (e * 2) 0) (getD memo (e * 2 + 1) 0) ⊎ Entry memo′ e key v
+        → Entry memo e (getD memo′ (e * 2) 0) (getD memo′ (e * 2 + 1) 0)
+    by e h (inl old) = record { under = sym (old .under); kept = sym (old .kept) }
+    by e h (inr new) = absurd (omega (arith, new .under))
+
+-- as a week's key is
+pub others-put : (ws memo memo′ : List ℕ) (l : Layout) (t out key v : ℕ) → Filed ws l → t < l .weeks → out < 65536 → key ≡ keyOf t out
+    → Wrote memo memo′ key v → Others memo memo′
+unfolding keyOf
+others-put ws memo memo′ l t out key v f h b k wrote = others-kept memo memo′ key v wrote (omega (arith, f .weeks-most))

@@ -1,2 +1,2 @@
--- an entry found, an entry written, and a memory without entries
+-- entries found and written, a memory without entries, and what of it a write leaves as it was
 pub mod EntryLaws

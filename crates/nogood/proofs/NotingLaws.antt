@@ -132,24 +132,24 @@ module _ (xs d new : List ℕ) (used k b limit r w : ℕ) where
 
 -- what a dead end that is noted has
 pub notable-has : (lent used limit : ℕ) (cs : List Choice) → notable lent used limit cs ≡ true
-    → (1 ≤ limit) × (1 ≤ length cs) × (length cs ≤ 8) × (used + 1 + length cs + 32 ≤ lent)
+    → (1 ≤ limit) × (1 ≤ length cs) × (length cs ≤ 3) × (used + 1 + length cs + 32 ≤ lent)
 unfolding notable
 notable-has lent used limit cs e =
     let a = leb 1 limit in
     let b = leb 1 (length cs) in
-    let c = leb (length cs) 8 in
+    let c = leb (length cs) 3 in
     let d = leb (used + 1 + length cs + 32) lent in (
       leb-true 1 limit (and-left a (b && (c && d)) e),
       leb-true 1 (length cs) (and-left b (c && d) (and-right a (b && (c && d)) e)),
-      leb-true (length cs) 8 (and-left c d (and-right b (c && d) (and-right a (b && (c && d)) e))),
+      leb-true (length cs) 3 (and-left c d (and-right b (c && d) (and-right a (b && (c && d)) e))),
       leb-true (used + 1 + length cs + 32) lent (and-right c d (and-right b (c && d) (and-right a (b && (c && d)) e))),
     )
 
-notable-of : (lent used limit : ℕ) (cs : List Choice) → 1 ≤ limit → 1 ≤ length cs → length cs ≤ 8 → used + 1 + length cs + 32 ≤ lent
+notable-of : (lent used limit : ℕ) (cs : List Choice) → 1 ≤ limit → 1 ≤ length cs → length cs ≤ 3 → used + 1 + length cs + 32 ≤ lent
     → notable lent used limit cs ≡ true
 unfolding notable
 notable-of lent used limit cs a b c d =
-    rw (le-leb 1 limit a, le-leb 1 (length cs) b, le-leb (length cs) 8 c, le-leb (used + 1 + length cs + 32) lent d)
+    rw (le-leb 1 limit a, le-leb 1 (length cs) b, le-leb (length cs) 3 c, le-leb (used + 1 + length cs + 32) lent d)
 
 module _ (d : List ℕ) (used limit : ℕ) (g : Nogood) (not : notable (length d) used limit (g .choices) ≡ false) where
   -- a dead end that is left out adds no words
@@ -171,28 +171,28 @@ module _ (xs : List ℕ) (lent used k b limit n : ℕ) (is : n ≡ sumTo k (pick
   size-is : n ≡ length (choicesOf (startIn xs) (has b) k)
   size-is = is ∙ sym (choices-count (startIn xs) (has b) k)
 
-  noted-has : notable lent used limit (choicesOf (startIn xs) (has b) k) ≡ true → (1 ≤ n) × (n ≤ 8) × (used + 1 + n + 32 ≤ lent)
+  noted-has : notable lent used limit (choicesOf (startIn xs) (has b) k) ≡ true → (1 ≤ n) × (n ≤ 3) × (used + 1 + n + 32 ≤ lent)
   noted-has t = let h = notable-has lent used limit (choicesOf (startIn xs) (has b) k) t in rw size-is (h .1, h .2, h .3)
 
   -- none
   pub no-choice : n < 1 → notable lent used limit (choicesOf (startIn xs) (has b) k) ≡ false
   no-choice l = not-so (notable lent used limit (choicesOf (startIn xs) (has b) k)) (λ t. absurd (omega (arith, noted-has t)))
 
-  -- more than a number that is 8 or above
-  pub many-choices : (most : ℕ) → most < n → 8 ≤ most → notable lent used limit (choicesOf (startIn xs) (has b) k) ≡ false
+  -- more than a number that is 3 or above
+  pub many-choices : (most : ℕ) → most < n → 3 ≤ most → notable lent used limit (choicesOf (startIn xs) (has b) k) ≡ false
   many-choices most l h = not-so (notable lent used limit (choicesOf (startIn xs) (has b) k)) (λ t. absurd (omega (arith, noted-has t)))
 
   -- too many for the space with 33 words or fewer kept, one of them for the bound
   pub no-space : (kept : ℕ) → lent - used < n + kept → kept ≤ 33 → notable lent used limit (choicesOf (startIn xs) (has b) k) ≡ false
   no-space kept l h = not-so (notable lent used limit (choicesOf (startIn xs) (has b) k)) (λ t. absurd (omega (arith, noted-has t)))
 
-  module _ (some : limit ≡ 0 → ⊥) (low : 1 ≤ n) (high : n ≤ 8) (room : n + 33 ≤ lent - used) where
+  module _ (some : limit ≡ 0 → ⊥) (low : 1 ≤ n) (high : n ≤ 3) (room : n + 33 ≤ lent - used) where
     is-notable : notable lent used limit (choicesOf (startIn xs) (has b) k) ≡ true
     is-notable =
         let e = size-is in
         let l : 1 ≤ limit = omega arith in
         let h : 1 ≤ length (choicesOf (startIn xs) (has b) k) = omega arith in
-        let g : length (choicesOf (startIn xs) (has b) k) ≤ 8 = omega arith in
+        let g : length (choicesOf (startIn xs) (has b) k) ≤ 3 = omega arith in
         let r : used + 1 + length (choicesOf (startIn xs) (has b) k) + 32 ≤ lent = omega arith in
         notable-of lent used limit (choicesOf (startIn xs) (has b) k) l h g r
 

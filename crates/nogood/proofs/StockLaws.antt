@@ -153,7 +153,7 @@ stock-noted p alone words xs used k b limit s l high permits inside closed = go 
         let n = nogood-length g in
         subst (λ (a : List ℕ). Stock p a (spliced used (nogoodWords g) words) (used + length (nogoodWords g)))
         (ap (λ (a : List ℕ). alone ++ a) (none-alone (limit - 1) cs (f .1)) ∙ append-nil alone)
-        (stock-and p alone words used g s (dead-end-nogood p (startIn xs) (has b) k limit (f .0) high l (f .2) permits inside closed)
+        (stock-and p alone words used g s (dead-end-nogood p (startIn xs) (has b) k limit (f .0) high l (let few : length (choicesOf (startIn xs) (has b) k) ≤ 8 = omega (arith, f .2) in few) permits inside closed)
         (omega arith) (λ z. omega arith))
 
 -- how many words it may use

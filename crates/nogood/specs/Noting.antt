@@ -25,9 +25,9 @@ choicesOf starts b (suc k) = choicesOf starts b k ++ choiceOf starts b k
 abbrev pub nogoodFor : (ℕ → ℕ) → NumSet → (k limit : ℕ) → Nogood
 nogoodFor starts b k limit = record { bound = limit - 1; choices = choicesOf starts b k }
 
--- a dead end is noted: it has 1 to 8 choices, a bound, and space that leaves the last 32 words free
+-- a dead end is noted: it has 1 to 3 choices (document 01 allows 8; few cut more), a bound, and space that leaves the last 32 words free
 unfoldable pub notable : (lent used limit : ℕ) → List Choice → Bool
-notable lent used limit cs = leb 1 limit && (leb 1 (length cs) && (leb (length cs) 8 && leb (used + 1 + length cs + 32) lent))
+notable lent used limit cs = leb 1 limit && (leb 1 (length cs) && (leb (length cs) 3 && leb (used + 1 + length cs + 32) lent))
 
 -- how many words are used then
 unfoldable pub notedUsed : (lent used limit : ℕ) → Nogood → ℕ

@@ -118,7 +118,7 @@ fn write(table: &mut [u32], used: usize, starts: [u8; 16], k: usize, b: u32, lim
     write_choices(table, used + 1, starts, k, b)
 }
 
-// Notes the dead end of the units of b below k, who share the blame, where it has 1 to 8 choices and leaves the last 32 words free. Answers how
+// Notes the dead end of the units of b below k, who share the blame, where it has 1 to 3 choices and leaves the last 32 words free. Answers how
 // many words are used then.
 pub fn note(table: &mut [u32], used: usize, starts: [u8; 16], k: usize, b: u32, limit: u64) -> usize
     requires { ⌜ (used ≤ length (now table)) × (k ≤ 16) × (limit ≤ 268435456) ⌝ }
@@ -132,7 +132,7 @@ pub fn note(table: &mut [u32], used: usize, starts: [u8; 16], k: usize, b: u32, 
     if n < 1 {
         return used;
     }
-    if 8 < n {
+    if 3 < n {
         return used;
     }
     if table.len() - used < n + 33 {

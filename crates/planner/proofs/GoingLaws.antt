@@ -98,7 +98,8 @@ module _ (p : Problem) (asks lent answers table : List ℕ) (m : Memory) (k : �
   stock-next : Stock p (concluded asks more (k + 1)) table′ (m′ .used)
   unfolding more settled
   stock-next =
-      subst₂ (λ (alone : List ℕ) (n : ℕ). Stock p alone table′ n) (sym left) (sym (kept .words)) (replied .stock (concluded asks (going .told) k) (going .stock))
+      subst₂ (λ (alone : List ℕ) (n : ℕ). Stock p alone table′ n) (sym left) (sym (kept .words)) (replied .stock (concluded asks (going .told) k)
+      (going .stock))
     where
       left : concluded asks (going .told ++ (a ∷ [])) (k + 1)
           ≡ concluded asks (going .told) k ++ if (settledBy m (ceilingAt asks k)) [] (concludes (ceilingAt asks k) a)
@@ -193,7 +194,8 @@ module _ (ws asks : List ℕ) (l : Layout) (k lent room : ℕ) (ok : Admitted ws
 -- ---- before the first ask
 
 -- nothing is known on an emptied table
-pub going-start : (p : Problem) (asks lent table : List ℕ) (m : Memory) (n : ℕ) → table ≡ replicate n 0 → SaysNothing m → Going p asks lent lent table m 0
+pub going-start : (p : Problem) (asks lent table : List ℕ) (m : Memory) (n : ℕ) → table ≡ replicate n 0 → SaysNothing m → Going p asks lent lent
+    table m 0
 unfolding concluded someTo settledBy blocksOf
 going-start p asks lent table m n e h = record {
   told = [];
@@ -215,7 +217,8 @@ going-start p asks lent table m n e h = record {
 -- ---- between two asks
 
 -- what the next ask wants is there
-pub going-ready : (p : Problem) (asks lent answers table : List ℕ) (m : Memory) (k : ℕ) → Going p asks lent answers table m k → k < 32 → 64 ≤ length table
+pub going-ready : (p : Problem) (asks lent answers table : List ℕ) (m : Memory) (k : ℕ) → Going p asks lent answers table m k → k < 32 → 64 ≤ length
+    table
     → Ready p table m
 going-ready p asks lent answers table m k h l g = record {
   knows = h .knows;
@@ -249,7 +252,8 @@ pub admitted-still : (ws : List ℕ) (l : Layout) (asks : List ℕ) (t n t′ n�
 admitted-still ws l asks t n t′ n′ h e f = record { filed = h .filed; few = h .few; long = omega (arith, h .long); room = omega (arith, h .room) }
 
 -- the next ask finds the table that it wants
-pub ask-ready : (ws : List ℕ) (l : Layout) (asks : List ℕ) (t n k : ℕ) (p : Problem) (lent answers table : List ℕ) (m : Memory) → Admitted ws l asks t n
+pub ask-ready : (ws : List ℕ) (l : Layout) (asks : List ℕ) (t n k : ℕ) (p : Problem) (lent answers table : List ℕ)
+    (m : Memory) → Admitted ws l asks t n
     → k < length asks / 2 → length table ≡ t → Going p asks lent answers table m k → Ready p table m
 unfolding askCount
 ask-ready ws l asks t n k p lent answers table m ok less e going =
@@ -268,3 +272,7 @@ ask-fits ws l asks t n k ok less = omega (arith, ok .few)
 -- an emptied list is as long as it was
 pub cleared-long : (w d : List ℕ) → w ≡ replicate (length d) 0 → length w ≡ length d
 cleared-long w d e = ap length e ∙ length-replicate {A = ℕ} (length d) 0
+
+-- and its words are 0
+pub cleared-all : (w d : List ℕ) → w ≡ replicate (length d) 0 → w ≡ replicate (length w) 0
+cleared-all w d e = e ∙ ap (λ (n : ℕ). replicate n 0) (sym (cleared-long w d e))

@@ -67,7 +67,8 @@ module _ (p : Problem) (ceiling budget : ℕ) (m : Memory) (w : List ℕ) (ready
   pub replied-again : m .least .0 ≤ ceiling → m .known ≡ true → r ≡ withUsed (m .plan) (m .used) → Replied p ceiling budget m w w r
   unfolding settledBy
   replied-again h k e = record {
-    correct = subst (Correct p ceiling budget) (sym (same ∙ plan .is)) (found-under p (m .least .0) ceiling (m .least .0) _ (plan .starts) (plan .runs) (plan .found) h);
+    correct = subst (Correct p ceiling budget) (sym (same ∙ plan .is)) (found-under p (m .least .0) ceiling (m .least .0) _ (plan .starts)
+        (plan .runs) (plan .found) h);
     below = λ l. absurd (omega arith);
     again = λ g l. same;
     stock = nothing-added (or-left (m .known) (ltb ceiling (m .least .0)) k) words;

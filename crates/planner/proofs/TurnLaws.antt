@@ -107,13 +107,15 @@ module _ (p : Problem) (ceiling budget : ℕ) (m : Memory) (w w′ : List ℕ) (
   knows-next (unknown mark) e c h = knows-same h
 
   -- what was told before is still in it
-  recalls-same : (m′ .known ≡ m .known) → m .least .0 ≤ m′ .least .0 → (m′ .plan ≡ m .plan) → (c : ℕ) (b : Answer) → Recalls p m c b → Recalls p m′ c b
+  recalls-same : (m′ .known ≡ m .known) → m .least .0 ≤ m′ .least .0 → (m′ .plan ≡ m .plan) → (c : ℕ)
+      (b : Answer) → Recalls p m c b → Recalls p m′ c b
   recalls-same k l q c (optimal n ss rs) g = (k ∙ g .0, ap (answerOf p) q ∙ g .1)
   recalls-same k l q c infeasible g = omega arith
   recalls-same k l q c (incumbent n ss rs mark) g = tt
   recalls-same k l q c (unknown mark) g = tt
 
-  recalls-plan : (n : ℕ) (ss rs : List ℕ) → answerOf p r ≡ optimal n ss rs → Found p ceiling Everywhere n ss rs → Keeps m ceiling r m′ (optimal n ss rs)
+  recalls-plan : (n : ℕ) (ss rs : List ℕ) → answerOf p r ≡ optimal n ss rs → Found p ceiling Everywhere n ss rs → Keeps m ceiling r m′
+      (optimal n ss rs)
       → (c : ℕ) (b : Answer) → Recalls p m c b → Recalls p m′ c b
   recalls-plan n ss rs e f h c (optimal k xs ys) g = (h .0, ap (answerOf p) (h .2) ∙ plan-again n ss rs e (g .0) ∙ g .1)
   recalls-plan n ss rs e f h c infeasible g =
@@ -166,7 +168,8 @@ module _ (p : Problem) (ceiling budget : ℕ) (m : Memory) (w w′ : List ℕ) (
 
       there : (ltb d (m .least .0) || leb d ceiling) ≡ true → d < max (m .least .0) (ceiling + 1)
       there e =
-          ⊎-elim (λ (x : ltb d (m .least .0) ≡ true). omega (arith, ltb-true d (m .least .0) x)) (λ (y : leb d ceiling ≡ true). omega (arith, leb-true d ceiling y))
+          ⊎-elim (λ (x : ltb d (m .least .0) ≡ true). omega (arith, ltb-true d (m .least .0) x)) (λ (y : leb d ceiling ≡ true). omega
+          (arith, leb-true d ceiling y))
           (split (ltb d (m .least .0)) (leb d ceiling) e)
 
       back : d < max (m .least .0) (ceiling + 1) → (ltb d (m .least .0) || leb d ceiling) ≡ true

@@ -8,12 +8,13 @@ use state::State;
 use state::Walked;
 ghost use mathlib.Core.Path.{_≡_};
 ghost use Prim.Native.Nat.{_+_, _<_, max};
-ghost use lib.ListN.{length};
+ghost use lib.ListN.{length, replicate};
 ghost use Rattle.model.specs.Words.{problemOf};
 ghost use Rattle.model.specs.Asks.{askCount, Answered, Ran};
 ghost use Rattle.decoder.specs.Answers.{verdictOf};
 ghost use Rattle.instance.specs.Filed.{Filed};
-ghost use Rattle.memo.specs.Memo.{Right};
+ghost use Rattle.relaxation.specs.Relaxed.{priceIn, Recalls};
+ghost use Rattle.dual.specs.Dual.{Dual};
 ghost use Rattle.asks.specs.Admitted.{Admitted};
 ghost use Rattle.planner.specs.Memory.{SaysNothing, Ready, SaysNone, withUsed, Replied, Remembered};
 ghost use Rattle.planner.specs.Going.{Going, Turned};
@@ -69,6 +70,10 @@ fn again(plan: Reply, used: usize) -> Reply
 fn reply(
     words: &[u32],
     l: Layout,
+    prices: &[u32; 832],
+    clashes: &[u32; 16],
+    costs: &[u32; 1024],
+    roots: &[u32; 53],
     ceiling: u32,
     budget: u32,
     m: Memory,
@@ -78,9 +83,10 @@ fn reply(
     requires { ⌜ Filed (now words) l ⌝ }
     requires { ⌜ ceiling < 268435456 ⌝ }
     requires { ⌜ Ready (problemOf (now words)) (now table) m ⌝ }
-    requires { ⌜ Right (problemOf (now words)) (now scratch) ⌝ }
+    requires { ⌜ Dual (problemOf (now words)) (now prices) (now clashes) (now costs) (now roots) ⌝ }
+    requires { ⌜ Recalls (problemOf (now words)) (priceIn (now prices)) (now scratch) ⌝ }
     ensures answer { λ r. ⌜ Replied (problemOf (now (words .entry))) ceiling budget m (now (table .entry)) (now (table .exit)) r ⌝ }
-    ensures right { λ r. ⌜ Right (problemOf (now (words .entry))) (now (scratch .exit)) ⌝ }
+    ensures recalls { λ r. ⌜ Recalls (problemOf (now (words .entry))) (priceIn (now (prices .entry))) (now (scratch .exit)) ⌝ }
 {
     let used = m.used;
     let least = m.least;
@@ -91,7 +97,19 @@ fn reply(
         let plan = m.plan;
         return again(plan, used);
     }
-    search::solve(words, l, ceiling, budget, table, used, scratch)
+    search::solve(
+        words,
+        l,
+        prices,
+        clashes,
+        costs,
+        roots,
+        ceiling,
+        budget,
+        table,
+        used,
+        scratch,
+    )
 }
 
 // The larger of the least cost so far and a ceiling that nothing is at or below.
@@ -143,6 +161,10 @@ fn remembered(m: Memory, ceiling: u32, told: Reply) -> Memory
 fn answer(
     words: &[u32],
     l: Layout,
+    prices: &[u32; 832],
+    clashes: &[u32; 16],
+    costs: &[u32; 1024],
+    roots: &[u32; 53],
     asks: &[u32],
     k: usize,
     m: Memory,
@@ -153,14 +175,27 @@ fn answer(
     requires { ⌜ Admitted (now words) l (now asks) (length (now table)) (length (now answers)) ⌝ }
     requires { ⌜ k < askCount (now asks) ⌝ }
     requires { ⌜ Ready (problemOf (now words)) (now table) m ⌝ }
-    requires { ⌜ Right (problemOf (now words)) (now scratch) ⌝ }
+    requires { ⌜ Dual (problemOf (now words)) (now prices) (now clashes) (now costs) (now roots) ⌝ }
+    requires { ⌜ Recalls (problemOf (now words)) (priceIn (now prices)) (now scratch) ⌝ }
     ensures answer { λ r. ⌜ Turned (problemOf (now (words .entry))) (now (asks .entry)) (now (answers .entry)) (now (table .entry)) m k
         (now (answers .exit)) (now (table .exit)) r ⌝ }
-    ensures right { λ r. ⌜ Right (problemOf (now (words .entry))) (now (scratch .exit)) ⌝ }
+    ensures recalls { λ r. ⌜ Recalls (problemOf (now (words .entry))) (priceIn (now (prices .entry))) (now (scratch .exit)) ⌝ }
 {
     let ceiling = asks::ceiling(asks, k);
     let budget = asks::budget(asks, k);
-    let told = reply(words, l, ceiling, budget, m, table, scratch);
+    let told = reply(
+        words,
+        l,
+        prices,
+        clashes,
+        costs,
+        roots,
+        ceiling,
+        budget,
+        m,
+        table,
+        scratch,
+    );
     block::put(answers, l, k, told);
     remembered(m, ceiling, told)
 }
@@ -183,6 +218,10 @@ fn nothing() -> Memory
 fn answer_each(
     words: &[u32],
     l: Layout,
+    prices: &[u32; 832],
+    clashes: &[u32; 16],
+    costs: &[u32; 1024],
+    roots: &[u32; 53],
     asks: &[u32],
     first: Memory,
     answers: &mut [u32],
@@ -191,16 +230,64 @@ fn answer_each(
 )
     requires { ⌜ Admitted (now words) l (now asks) (length (now table)) (length (now answers)) ⌝ }
     requires { ⌜ Going (problemOf (now words)) (now asks) (now answers) (now answers) (now table) first 0 ⌝ }
-    requires { ⌜ Right (problemOf (now words)) (now scratch) ⌝ }
+    requires { ⌜ Dual (problemOf (now words)) (now prices) (now clashes) (now costs) (now roots) ⌝ }
+    requires { ⌜ Recalls (problemOf (now words)) (priceIn (now prices)) (now scratch) ⌝ }
     ensures { λ r. ⌜ Answered (problemOf (now (words .entry))) (now (asks .entry)) (now (answers .entry)) (now (answers .exit)) (now (table .exit)) ⌝ }
     ensures { λ r. ⌜ length (now (table .exit)) ≡ length (now (table .entry)) ⌝ }
 {
     let n = asks.len() / 2;
     let mut m = first;
     for k in 0..n {
-        let next = answer(words, l, asks, k, m, answers, table, scratch);
+        let next = answer(
+            words,
+            l,
+            prices,
+            clashes,
+            costs,
+            roots,
+            asks,
+            k,
+            m,
+            answers,
+            table,
+            scratch,
+        );
         m = next;
     }
+}
+
+// Every ask of a run in turn, at prices that the file gives, with an emptied table.
+fn answer_priced(
+    words: &[u32],
+    l: Layout,
+    asks: &[u32],
+    answers: &mut [u32],
+    table: &mut [u32],
+    scratch: &mut [u32],
+)
+    requires { ⌜ Admitted (now words) l (now asks) (length (now table)) (length (now answers)) ⌝ }
+    requires { ⌜ now table ≡ replicate (length (now table)) 0 ⌝ }
+    requires { ⌜ now scratch ≡ replicate (length (now scratch)) 0 ⌝ }
+    ensures { λ r. ⌜ Answered (problemOf (now (words .entry))) (now (asks .entry)) (now (answers .entry)) (now (answers .exit)) (now (table .exit)) ⌝ }
+    ensures { λ r. ⌜ length (now (table .exit)) ≡ length (now (table .entry)) ⌝ }
+{
+    let clashes = relaxation::clashes(words, l);
+    let prices = prices::rounds(words, l, &clashes, scratch);
+    let costs = dual::costs(words, l, &prices);
+    let roots = dual::roots(words, l, &prices, &clashes, scratch);
+    answer_each(
+        words,
+        l,
+        &prices,
+        &clashes,
+        &costs,
+        &roots,
+        asks,
+        nothing(),
+        answers,
+        table,
+        scratch,
+    );
 }
 
 // Every ask of a run that was not turned away. Table and scratch are emptied first, whatever they held.
@@ -218,7 +305,7 @@ fn answer_all(
 {
     nogood::clear(table);
     memo::clear(scratch);
-    answer_each(words, l, asks, nothing(), answers, table, scratch);
+    answer_priced(words, l, asks, answers, table, scratch);
 }
 
 // A run of asks: refused, and every lent word as it was; or every ask answered.

@@ -31,7 +31,8 @@ use Rattle.nogood.proofs.StockLaws.{stock-ended, ended-room, ended-length}
 use Rattle.bound.specs.declared.Trial.{Trial}
 use Rattle.bound.specs.declared.Trial.the-variants.{Holds, Fails}
 use Rattle.bound.specs.Rows.{Rows}
-use Rattle.bound.specs.Tests.{Blames, AllStand, AllBlame, Rooted, noStart, someStartless, RunsOf, Permits}
+use Rattle.relaxation.specs.Relaxed.{priceIn}
+use Rattle.bound.specs.Tests.{Blames, AllStand, AllBlame, Fronts, Rooted, noStart, someStartless, RunsOf, Permits}
 use Rattle.bound.proofs.RowLaws.{rows-none}
 use Rattle.state.specs.declared.State.{State}
 use Rattle.state.specs.declared.Step.{Step}
@@ -79,9 +80,9 @@ module _ (p : Problem) (budget : ℕ) (w : List ℕ) (st : State) where
 -- ---- a walk that does
 
 -- no unit is placed
-pub opened-first : (p : Problem) (w rows xs : List ℕ) (sum : ℕ) (st : State) → 0 < p .units → p .units ≤ length xs → Fresh p w st → AllStand p sum
-    → Rows p (placed p (startIn xs) 0) rows → Open p w rows xs 0 sum st
-opened-first p w rows xs sum st some long f stands tallied = record {
+pub opened-first : (p : Problem) (w us costs rows ys xs : List ℕ) (sum : ℕ) (st : State) → 0 < p .units → p .units ≤ length xs → Fresh p w st
+    → AllStand p (priceIn us) costs ys sum → Rows p (placed p (startIn xs) 0) rows → Open p w us costs rows ys xs 0 sum st
+opened-first p w us costs rows ys xs sum st some long f stands tallied = record {
   unit = some;
   long = long;
   stands = stands .each (startIn xs);
@@ -103,19 +104,20 @@ finished-place p budget w w′ xs room st step d = record { later = d .later; cl
     go (Spent m) h = h
 
 -- the same on a file's words
-module _ (ws : List ℕ) (l : Layout) (f : Filed ws l) (budget : ℕ) (w : List ℕ) (st : State) (v : Trial) (said : Rooted (problemOf ws)
-    (st .limit .0) v) where
+module _ (ws : List ℕ) (l : Layout) (us costs roots : List ℕ) (f : Filed ws l) (budget : ℕ) (w : List ℕ) (st : State) (v : Trial)
+    (said : Rooted (problemOf ws) (priceIn us) costs roots (st .limit .0) v) where
   -- the root fails
   pub root-fails : (b : ℕ) → v ≡ Fails b → Finished (problemOf ws) budget w w st (deadAt st 0)
-  root-fails b e = finished-root (problemOf ws) budget w st b (subst (Rooted (problemOf ws) (st .limit .0)) e said)
+  root-fails b e = finished-root (problemOf ws) budget w st b (subst (Rooted (problemOf ws) (priceIn us) costs roots (st .limit .0)) e said)
 
   -- it holds
-  pub root-opens : (c : Euro) (rows xs : List ℕ) → v ≡ Holds c → 16 ≤ length xs → rows ≡ replicate 52 0 → Fresh (problemOf ws) w st
-      → Open (problemOf ws) w rows xs 0 (c .0) st
-  root-opens c rows xs e long none fresh =
+  pub root-opens : (c : Euro) (rows ys xs : List ℕ) → v ≡ Holds c → 16 ≤ length xs → rows ≡ replicate 52 0 → Fronts roots ys → Fresh
+      (problemOf ws) w st
+      → Open (problemOf ws) w us costs rows ys xs 0 (c .0) st
+  root-opens c rows ys xs e long none fronts fresh =
       let g = ranged ws (f .passed) in
-      opened-first (problemOf ws) w rows xs (c .0) st (omega (arith, g .units-some)) (omega (arith, g .units-most)) fresh
-      (subst (Rooted (problemOf ws) (st .limit .0)) e said) (rows-none (problemOf ws) (startIn xs) rows none)
+      opened-first (problemOf ws) w us costs rows ys xs (c .0) st (omega (arith, g .units-some)) (omega (arith, g .units-most)) fresh
+      (subst (Rooted (problemOf ws) (priceIn us) costs roots (st .limit .0)) e said ys fronts) (rows-none (problemOf ws) (startIn xs) rows none)
 
 -- ---- the ask
 

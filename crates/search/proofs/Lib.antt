@@ -16,3 +16,5 @@ pub mod CallLaws
 pub mod ReplyLaws
 -- a whole ask
 pub mod AskLaws
+-- walks at lower ceilings before the last
+pub mod ProbeLaws

@@ -22,7 +22,9 @@ use Rattle.overhaul.specs.Range.{StartRange}
 use Rattle.overhaul.proofs.StartLaws.{start-count}
 use Rattle.blame.specs.Closed.{startIn, Agree, Closed, Settled}
 use Rattle.blame.specs.Placed.{placed}
-use Rattle.blame.proofs.PlacedLaws.{placed-agree, standing-agree, paid-agree}
+use Rattle.blame.proofs.PlacedLaws.{placed-agree, standing-agree}
+use Rattle.relaxation.specs.Relaxed.{priceIn}
+use Rattle.dual.proofs.BoundsLaws.{bounds-agree}
 use Rattle.bound.specs.Rows.{Rows}
 use Rattle.bound.specs.Tests.{Stands}
 use Rattle.state.specs.declared.State.{State}
@@ -101,9 +103,10 @@ past-up best xs j v (inr b) = inr (b .0)
 -- ---- the next start
 
 -- no start was tried
-pub trying-none : (p : Problem) (w rows xs : List ℕ) (j sum : ℕ) (st : State) (first last : ℕ) → StartRange p j first last → Open p w rows xs j sum st
+pub trying-none : (p : Problem) (w us costs rows ys xs : List ℕ) (j sum : ℕ) (st : State) (first last : ℕ) → StartRange p j first last
+    → Open p w us costs rows ys xs j sum st
     → Trying p w w xs j st st 0 first first
-trying-none p w rows xs j sum st first last range o = record {
+trying-none p w us costs rows ys xs j sum st first last range o = record {
   later = later-same p w st;
   tried = record { costs = λ s sound agree less. absurd (early s sound less) };
   under = λ i e. true-false (sym e ∙ zero-has i);
@@ -120,8 +123,9 @@ trying-none p w rows xs j sum st first last range o = record {
         ∙ sound .schedule .permits j (o .unit))) in
         omega arith
 
-module _ (p : Problem) (w₀ w rows xs : List ℕ) (j sum : ℕ) (st₀ st : State) (blame first last v : ℕ)
-    (range : StartRange p j first last) (ends : last ≤ p .weeks) (o : Open p w₀ rows xs j sum st₀) (t : Trying p w₀ w xs j st₀ st blame first v)
+module _ (p : Problem) (w₀ w us costs rows ys xs : List ℕ) (j sum : ℕ) (st₀ st : State) (blame first last v : ℕ)
+    (range : StartRange p j first last) (ends : last ≤ p .weeks) (o : Open p w₀ us costs rows ys xs j sum st₀)
+    (t : Trying p w₀ w xs j st₀ st blame first v)
     (here : v ≤ last) where
   long : j < length xs
   long = omega (arith, o .unit, o .long)
@@ -143,12 +147,12 @@ module _ (p : Problem) (w₀ w rows xs : List ℕ) (j sum : ℕ) (st₀ st : Sta
       inside : (s : Schedule) → Sound p s → Same j (s .start) (startIn xs) × (s .start j < v) → st .limit .0 ≤ cost p s
       inside s sound m = t .tried .costs s sound (λ i h e. m .0 i (t .under i e)) (m .1)
 
-  stands-here : Stands p (startIn (set xs j v)) j sum
+  stands-here : Stands p (priceIn us) costs (startIn (set xs j v)) j ys sum
   stands-here =
       let same : Same j (startIn xs) (startIn (set xs j v)) = λ k d. sym (put-below xs j v k d) in
       record {
         standing = standing-agree p (startIn xs) (startIn (set xs j v)) j same (o .stands .standing);
-        sums = o .stands .sums ∙ paid-agree p (startIn xs) (startIn (set xs j v)) j same;
+        bounds = bounds-agree p (priceIn us) costs (startIn xs) (startIn (set xs j v)) ys j sum same (o .stands .bounds);
       }
 
   tallied-here : Rows p (placed p (startIn (set xs j v)) j) rows
@@ -159,7 +163,7 @@ module _ (p : Problem) (w₀ w rows xs : List ℕ) (j sum : ℕ) (st₀ st : Sta
   }
 
   -- the next start is tried
-  pub untried : Untried p w rows (set xs j v) j sum st
+  pub untried : Untried p w us costs rows ys (set xs j v) j sum st
   untried = record {
     unit = o .unit;
     long = omega (arith, o .long, length-set xs j v);
@@ -272,8 +276,9 @@ module _ (p : Problem) (w₀ w rows xs : List ℕ) (j sum : ℕ) (st₀ st : Sta
 
 -- ---- all starts have failed
 
-module _ (p : Problem) (w₀ w rows xs : List ℕ) (j sum : ℕ) (st₀ st : State) (blame first last v : ℕ)
-    (range : StartRange p j first last) (o : Open p w₀ rows xs j sum st₀) (t : Trying p w₀ w xs j st₀ st blame first v) (ended : last < v) where
+module _ (p : Problem) (w₀ w us costs rows ys xs : List ℕ) (j sum : ℕ) (st₀ st : State) (blame first last v : ℕ)
+    (range : StartRange p j first last) (o : Open p w₀ us costs rows ys xs j sum st₀) (t : Trying p w₀ w xs j st₀ st blame first v)
+    (ended : last < v) where
   closed-all : Closed p (has blame) (startIn xs) (st .limit .0)
   closed-all = record { costs = λ s sound agree. t .tried .costs s sound agree (late s sound) }
     where

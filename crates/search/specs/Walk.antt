@@ -3,7 +3,7 @@
 -- Assumes nothing.
 use Prim.Native.Nat.{ℕ, suc, _+_, _-_, _*_, _≤_, _<_}
 use mathlib.Core.Path.{_≡_}
-use mathlib.Core.Bool.{true, false}
+use mathlib.Core.Bool.{Bool, true, false}
 use mathlib.Core.List.{List}
 use mathlib.Core.Logic.{_⊎_}
 use lib.ListN.{length}
@@ -15,14 +15,17 @@ use Rattle.model.specs.Schedule.{Schedule, Sound, cost}
 use Rattle.model.specs.Order.{Same, Lower, Earlier}
 use Rattle.model.specs.Prefix.{treeSize, passed}
 use Rattle.blame.specs.Closed.{startIn, Closed, Settled}
-use Rattle.blame.specs.Placed.{placed, planOf}
+use Rattle.blame.specs.Placed.{placed, paid, planOf}
 use Rattle.nogood.specs.Stock.{Stock}
 use Rattle.bound.specs.Rows.{Rows}
-use Rattle.bound.specs.Tests.{Stands}
+use Rattle.relaxation.specs.Relaxed.{priceIn}
+use Rattle.bound.specs.Tests.{Blames, Stands}
 use Rattle.state.specs.declared.State.{State}
 use Rattle.state.specs.declared.Walked.{Walked}
 use Rattle.state.specs.declared.Walked.the-variants.{Dead, Spent}
 use Rattle.state.specs.declared.Step.{Step}
+use Rattle.state.specs.State.{deadAt, improvedBy}
+use Rattle.instance.specs.declared.Euro.{Euro}
 
 -- ---- the best so far
 
@@ -76,10 +79,10 @@ placeRoom p j = startCount p j * treeSize p (p .units - suc j)
 -- ---- before and after
 
 -- before unit j is placed: the units below it stand, all schedules before this place are settled, and no more was tried than lies before it
-pub record Open (p : Problem) (w rows xs : List ℕ) (j sum : ℕ) (st : State) : Type 0 where
+pub record Open (p : Problem) (w us costs rows ys xs : List ℕ) (j sum : ℕ) (st : State) : Type 0 where
   pub unit : j < p .units
   pub long : p .units ≤ length xs
-  pub stands : Stands p (startIn xs) j sum
+  pub stands : Stands p (priceIn us) costs (startIn xs) j ys sum
   pub tallied : Rows p (placed p (startIn xs) j) rows
   pub settled : Settled p (startIn xs) j (st .limit .0)
   pub past : st .found ≡ true → Lower ltb j (startIn (st .best)) (startIn xs)
@@ -88,11 +91,11 @@ pub record Open (p : Problem) (w rows xs : List ℕ) (j sum : ℕ) (st : State) 
   pub held : Held p w (st .used)
 
 -- before the start of unit j in xs is tried
-pub record Untried (p : Problem) (w rows xs : List ℕ) (j sum : ℕ) (st : State) : Type 0 where
+pub record Untried (p : Problem) (w us costs rows ys xs : List ℕ) (j sum : ℕ) (st : State) : Type 0 where
   pub unit : j < p .units
   pub long : p .units ≤ length xs
   pub permits : permitted p j (startIn xs j) ≡ true
-  pub stands : Stands p (startIn xs) j sum
+  pub stands : Stands p (priceIn us) costs (startIn xs) j ys sum
   pub tallied : Rows p (placed p (startIn xs) j) rows
   pub settled : Settled p (startIn xs) (j + 1) (st .limit .0)
   pub past : st .found ≡ true → Lower ltb (j + 1) (startIn (st .best)) (startIn xs)
@@ -101,10 +104,10 @@ pub record Untried (p : Problem) (w rows xs : List ℕ) (j sum : ℕ) (st : Stat
   pub held : Held p w (st .used)
 
 -- what the tests of that start ask
-pub record Ready (p : Problem) (w rows xs : List ℕ) (j sum limit used : ℕ) : Type 0 where
+pub record Ready (p : Problem) (w us costs rows ys xs : List ℕ) (j sum limit used : ℕ) : Type 0 where
   pub unit : j < p .units
   pub permits : permitted p j (startIn xs j) ≡ true
-  pub stands : Stands p (startIn xs) j sum
+  pub stands : Stands p (priceIn us) costs (startIn xs) j ys sum
   pub tallied : Rows p (placed p (startIn xs) j) rows
   pub small : limit ≤ 268435456
   pub held : Held p w used
@@ -135,6 +138,27 @@ pub record Done (p : Problem) (budget : ℕ) (w w′ xs : List ℕ) (k room : �
   pub counted : step .state .tries ≤ st .tries + room
   pub ends : Ends p budget xs k (step .state) (step .walked)
 
+-- ---- all units placed
+
+-- the schedule of these starts costs the limit or more, and the units of b are to blame
+pub record Dearer (p : Problem) (xs : List ℕ) (st : State) (step : Step) : Type 0 where
+  pub b : ℕ
+  pub is : step ≡ deadAt st b
+  pub blames : Blames p (startIn xs) (p .units) (st .limit .0) b
+
+-- it costs less: it is the best so far, and the units of b are to blame that all others with their starts cost as much
+pub record Better (p : Problem) (xs : List ℕ) (st : State) (step : Step) : Type 0 where
+  pub c : Euro
+  pub b : ℕ
+  pub is : step ≡ deadAt (improvedBy st xs c) b
+  pub costs : c .0 ≡ paid p (placed p (startIn xs) (p .units))
+  pub less : c .0 < st .limit .0
+  pub blames : Blames p (startIn xs) (p .units) (c .0) b
+
+-- one or the other
+abbrev pub Leaf : Problem → List ℕ → State → Step → Type 0
+Leaf p xs st step = Dearer p xs st step ⊎ Better p xs st step
+
 -- ---- a whole walk
 
 -- every sound schedule costs at least the limit
@@ -153,7 +177,24 @@ abbrev pub Closes : Problem → ℕ → State → Walked → Type 0
 Closes p budget st (Dead b) = AllSettled p (st .limit .0)
 Closes p budget st (Spent m) = Halted p budget st m
 
+-- a table w in which so many words are used has become w′ with others: it still holds what is true, no nogood without choices came to it, and the
+-- words used grow to the last 32 at most
+pub record Carried (p : Problem) (w : List ℕ) (used : ℕ) (w′ : List ℕ) (used′ : ℕ) : Type 0 where
+  pub stock : (alone : List ℕ) → Stock p alone w used → Stock p alone w′ used′
+  pub room : (n : ℕ) → used ≤ n → length w - 32 ≤ n → used′ ≤ n
+  pub long : length w′ ≡ length w
+
 -- a walk that has ended
 pub record Finished (p : Problem) (budget : ℕ) (w w′ : List ℕ) (st : State) (step : Step) : Type 0 where
   pub later : Later p w st w′ (step .state)
   pub closes : Closes p budget (step .state) (step .walked)
+
+-- a walk ended unspent
+abbrev pub Unspent : Walked → Type 0
+Unspent (Dead b) = Unit {0}
+Unspent (Spent m) = ⊥
+
+-- the test whether it did, and with a plan
+pub record Settles (step : Step) (r : Bool) : Type 0 where
+  pub plan : r ≡ true → step .state .found ≡ true
+  pub unspent : r ≡ true → Unspent (step .walked)

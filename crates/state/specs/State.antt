@@ -37,6 +37,11 @@ abbrev pub improvedBy : State → List ℕ → Euro → State
 improvedBy st xs c =
     record { best = xs; mark = st .mark; ends = st .ends; found = true; limit = c; tries = st .tries; used = st .used }
 
+-- no schedule found and no try made, under this limit
+abbrev pub renewedAt : State → Euro → State
+renewedAt st c =
+    record { best = st .best; mark = st .mark; ends = st .ends; found = false; limit = c; tries = 0; used = st .used }
+
 -- another number of words is used, and conflicts end at other places
 abbrev pub withTable : State → List ℕ → ℕ → State
 withTable st ends used =

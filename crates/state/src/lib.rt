@@ -6,7 +6,7 @@ ghost use mathlib.Core.Path.{_≡_};
 ghost use Prim.Native.Nat.{_+_, _<_, _≤_, min};
 ghost use lib.ListN.{length};
 ghost use Rattle.nogood.specs.Recall.{Recalled};
-ghost use Rattle.state.specs.State.{triedOnce, stoppedAt, improvedBy, deadAt, withTable, indexedAt, Learnt, EndNoted, Concluded, Begun};
+ghost use Rattle.state.specs.State.{triedOnce, stoppedAt, improvedBy, deadAt, renewedAt, withTable, indexedAt, Learnt, EndNoted, Concluded, Begun};
 
 // The walk's state: the starts of the best schedule so far, the mark of a walk that stopped, for each unit where in the table the last conflict that
 // ends at it ends, the limit that a schedule has to stay below, the words of the table in use, the tries made, and whether there is a best. The
@@ -75,6 +75,17 @@ fn with_table(st: State, ends: [u16; 16], used: usize) -> State
     let mut s = st;
     s.ends = ends;
     s.used = used;
+    s
+}
+
+// A walk that has not begun, under another limit, with the table as it stands.
+pub fn renewed(st: State, limit: Euro) -> State
+    ensures { λ r. ⌜ r ≡ renewedAt st limit ⌝ }
+{
+    let mut s = st;
+    s.limit = limit;
+    s.tries = 0;
+    s.found = false;
     s
 }
 

@@ -1,5 +1,5 @@
 //! Asks under an open ceiling on generated instances, each a list of its own, the proved call beside
-//! the plain twin: what a try takes, then the same as the season gets longer, and as the table of
+//! the plain twin: what an ask takes, then the same as the season gets longer, and as the table of
 //! conflicts does.
 
 use crate::generated::Scheme;
@@ -8,20 +8,22 @@ use crate::table;
 use crate::timing::Times;
 use reference::{block_len, encode, word, Plan};
 use std::hint::black_box;
+use std::time::Instant;
 
 /// A ceiling that no schedule is above.
 const OPEN: u32 = (1 << 28) - 1;
 /// How often each side of a case is timed.
 const ROUNDS: usize = 15;
-/// About how many tries are timed together.
+/// The tries of an ask.
 const TRIES: u32 = 1_500_000;
+/// Asks are timed together for about as many nanoseconds, but for no more than so many of them.
+const TOGETHER: (u128, u128) = (20_000_000, 200);
 /// The words of the longest table.
 const LONGEST: usize = 16_384;
 
 /// Holds the proved call against the plain twin on all asks, times them, prints three tables.
 pub fn run() {
-    let rounds = format!("{ROUNDS} rounds of about {TRIES} tries");
-    table::preamble(&rounds);
+    table::preamble(&format!("{ROUNDS} rounds of some calls"));
     time_instances();
     println!();
     time_seasons();
@@ -29,16 +31,13 @@ pub fn run() {
     time_tables();
     println!();
     println!("Status: 1 plan, 2 none, 3 spent with a best, 4 spent without one.");
-    println!(
-        "Weeks: of a tried overhaul, in the mean. Lookups: those that got as far as the memo."
-    );
-    println!("Misses: those that it did not have. Both are the twin's, for a try.");
-    println!("A try has its share of the whole call: the file read, the words cleared, the block.");
+    println!("Tries: all walks'. Lookups: what the memo was asked for, runs and values of weeks.");
+    println!("Misses: the runs that it did not have. All three are the twin's.");
 }
 
-/// Instances of many sizes, with a budget that most of them spend.
+/// Instances of many sizes.
 fn time_instances() {
-    println!("open ceiling, {TRIES} tries, table of {LONGEST} words; microseconds a try");
+    println!("open ceiling, {TRIES} tries, table of {LONGEST} words; microseconds an ask");
     table::titles(&["status", "tries", "proved us", "plain us", "proved/plain"]);
     for (case, scheme) in instances() {
         let measured = Measured::of(&scheme.plan(), TRIES, LONGEST);
@@ -48,8 +47,8 @@ fn time_instances() {
             &[
                 (f64::from(measured.status), 0),
                 (f64::from(measured.effort.tries), 0),
-                (proved, 3),
-                (plain, 3),
+                (proved, 0),
+                (plain, 0),
                 (measured.times.ratio(), 2),
             ],
         );
@@ -87,14 +86,12 @@ fn narrow(window: u32, pairs: usize) -> Scheme {
     }
 }
 
-/// The same plant over longer and longer seasons: a try looks at the weeks of its overhaul alone,
-/// so it takes no longer, but for the weeks that get as far as the memo, of which there are more
-/// where fewer units are out, and for the cheapest runs that the memo has not.
+/// The same plant over longer and longer seasons.
 fn time_seasons() {
-    println!("15 units of the same durations, open ceiling; microseconds a try");
+    println!("15 units of the same durations, open ceiling; microseconds an ask");
     table::titles(&[
+        "status",
         "tries",
-        "weeks",
         "lookups",
         "misses",
         "proved us",
@@ -117,18 +114,22 @@ fn time_season(case: &str, weeks: u32, budget: u32) {
     let (plan, shortest) = (season(weeks).plan(), season(13).plan());
     assert_eq!(plan.duration, shortest.duration, "the plant is the same");
     let measured = Measured::of(&plan, budget, LONGEST);
-    let Effort { tries, .. } = measured.effort;
-    let a_try = |count: u64| count as f64 / f64::from(tries);
+    let Effort {
+        tries,
+        lookups,
+        misses,
+        ..
+    } = measured.effort;
     let (proved, plain) = measured.microseconds();
     table::figures(
         case,
         &[
+            (f64::from(measured.status), 0),
             (f64::from(tries), 0),
-            (a_try(measured.effort.weeks), 2),
-            (a_try(measured.effort.lookups), 2),
-            (a_try(measured.effort.misses), 4),
-            (proved, 3),
-            (plain, 3),
+            (lookups as f64, 0),
+            (misses as f64, 0),
+            (proved, 0),
+            (plain, 0),
             (measured.times.ratio(), 2),
         ],
     );
@@ -137,7 +138,7 @@ fn time_season(case: &str, weeks: u32, budget: u32) {
 /// Files with narrow windows and many pairs, which leave many dead ends of few choices, and tables
 /// with room for some of them or for most.
 fn time_tables() {
-    println!("15x13, windows of 4 or 5 starts, open ceiling; microseconds a try");
+    println!("15x13, windows of 4 or 5 starts, open ceiling; microseconds an ask");
     table::titles(&[
         "status",
         "tries",
@@ -156,8 +157,8 @@ fn time_tables() {
                     (f64::from(measured.status), 0),
                     (f64::from(measured.effort.tries), 0),
                     (measured.used as f64, 0),
-                    (proved, 3),
-                    (plain, 3),
+                    (proved, 0),
+                    (plain, 0),
                     (measured.times.ratio(), 2),
                 ],
             );
@@ -180,13 +181,15 @@ impl Measured {
     fn of(plan: &Plan, budget: u32, table: usize) -> Self {
         let words = encode(plan);
         let mut lent = Lent::new(plan, table);
+        let start = Instant::now();
         let effort = checked(&words, OPEN, budget, &mut lent);
+        let calls = TOGETHER.0 / start.elapsed().as_nanos().max(1);
         let last = lent.table.iter().rposition(|&word| word != 0);
         let (status, used) = (lent.answer[0], last.map_or(0, |last| last + 1));
         let mut other = lent.clone();
         let times = Times::in_rounds(
             ROUNDS,
-            (TRIES / effort.tries.max(1)).max(1),
+            calls.clamp(1, TOGETHER.1) as u32,
             || proved(black_box(&words), OPEN, budget, black_box(&mut lent)),
             || plain(black_box(&words), OPEN, budget, black_box(&mut other)),
         );
@@ -198,11 +201,10 @@ impl Measured {
         }
     }
 
-    /// The microseconds for a try: proved, plain.
+    /// The microseconds for an ask: proved, plain.
     fn microseconds(&self) -> (f64, f64) {
         let (proved, plain) = self.times.medians();
-        let thousands = 1000.0 * f64::from(self.effort.tries);
-        (proved / thousands, plain / thousands)
+        (proved / 1000.0, plain / 1000.0)
     }
 }
 
@@ -245,51 +247,86 @@ fn plain(words: &[u32], ceiling: u32, budget: u32, lent: &mut Lent) -> Effort {
     plain_ask::ask(words, &ask, answer, table, scratch).expect("accepted")
 }
 
-/// What the twin took; panics unless the proved call leaves the same block and the same table,
-/// which are then in the lent words.
+/// What the twin took; panics unless the proved call leaves the same block, which is then in the
+/// lent words, where neither is spent.
 fn checked(words: &[u32], ceiling: u32, budget: u32, lent: &mut Lent) -> Effort {
     let mut expected = lent.clone();
     let effort = plain(words, ceiling, budget, &mut expected);
     proved(words, ceiling, budget, lent);
-    assert_eq!(lent.answer, expected.answer, "proved block, then plain");
-    assert!(lent.table == expected.table, "the tables differ");
+    if lent.answer[0] < 3 && expected.answer[0] < 3 {
+        assert_eq!(lent.answer, expected.answer, "proved block, then plain");
+    }
     effort
 }
 
 /// These link the archive of the proved code, as all tests of `agree` do.
 #[cfg(test)]
 mod tests {
-    use super::{checked, instances, narrow, Lent, OPEN};
+    use super::{checked, instances, narrow, plain, proved, Lent, OPEN};
     use crate::generated::small_plan;
     use reference::encode;
 
-    #[test]
-    fn proved_and_plain_leave_the_same_words_on_small_files() {
+    /// Panics unless the proved call leaves the same block and the same table as the twin, which
+    /// are then in the lent words.
+    fn checked_words(words: &[u32], ceiling: u32, budget: u32, lent: &mut Lent) {
+        let mut expected = lent.clone();
+        plain(words, ceiling, budget, &mut expected);
+        proved(words, ceiling, budget, lent);
+        assert_eq!(lent.answer, expected.answer, "proved block, then plain");
+        assert!(lent.table == expected.table, "the tables differ");
+    }
+
+    /// Asks about small files as `check` does it.
+    fn sweep_small(check: impl Fn(&[u32], u32, u32, &mut Lent)) {
         for seed in 0..600 {
             let plan = small_plan(seed);
             let mut lent = Lent::new(&plan, [64, 500][seed as usize % 2]);
             let words = encode(&plan);
-            checked(&words, OPEN, OPEN, &mut lent);
+            check(&words, OPEN, OPEN, &mut lent);
             let cost = lent.answer[1];
             for ceiling in [0, cost.saturating_sub(1), cost, OPEN] {
                 for budget in [1, 2, 3, 5, 10, 20, 50] {
-                    checked(&words, ceiling, budget, &mut lent);
+                    check(&words, ceiling, budget, &mut lent);
                 }
             }
         }
     }
 
-    #[test]
-    fn proved_and_plain_leave_the_same_words_on_generated_ones() {
+    /// Asks about generated files as `check` does it.
+    fn sweep_generated(check: impl Fn(&[u32], u32, u32, &mut Lent)) {
         let noting = [("", narrow(4, 30)), ("", narrow(5, 40))];
         for (_, scheme) in instances().into_iter().chain(noting) {
             let plan = scheme.plan();
             for table in [64, 100, 1024, 16_384] {
                 let mut lent = Lent::new(&plan, table);
                 for budget in [1, 20, 1000, 30_000] {
-                    checked(&encode(&plan), OPEN, budget, &mut lent);
+                    check(&encode(&plan), OPEN, budget, &mut lent);
                 }
             }
         }
+    }
+
+    #[test]
+    fn proved_and_plain_give_the_same_answers_on_small_files() {
+        sweep_small(|words, ceiling, budget, lent| {
+            checked(words, ceiling, budget, lent);
+        });
+    }
+
+    #[test]
+    fn proved_and_plain_give_the_same_answers_on_generated_ones() {
+        sweep_generated(|words, ceiling, budget, lent| {
+            checked(words, ceiling, budget, lent);
+        });
+    }
+
+    #[test]
+    fn proved_and_plain_leave_the_same_words_on_small_files() {
+        sweep_small(checked_words);
+    }
+
+    #[test]
+    fn proved_and_plain_leave_the_same_words_on_generated_ones() {
+        sweep_generated(checked_words);
     }
 }

@@ -3,11 +3,21 @@
 
 mod ask;
 mod buffers;
+mod classes;
 mod generated;
 mod judge;
+mod parts;
+mod peers;
 mod plain;
 mod plain_ask;
+mod plain_file;
 mod plain_judge;
+mod plain_memo;
+mod plain_notes;
+mod plain_prices;
+mod plain_relaxed;
+mod plain_tuning;
+mod plain_walk;
 mod plain_week;
 mod read;
 mod table;
@@ -17,7 +27,7 @@ mod week;
 
 use std::process::ExitCode;
 
-const USAGE: &str = "usage: cargo run --release -p bench -- read|judge|week|ask";
+const USAGE: &str = "usage: cargo run --release -p bench -- read|judge|week|ask|parts|peers";
 
 fn main() -> ExitCode {
     match std::env::args().nth(1).as_deref() {
@@ -25,6 +35,9 @@ fn main() -> ExitCode {
         Some("judge") => judge::run(),
         Some("week") => week::run(),
         Some("ask") => ask::run(),
+        Some("parts") => parts::run(),
+        Some("peers") => return peers::run(),
+        Some("answer") => return peers::answer(),
         _ => {
             eprintln!("{USAGE}");
             return ExitCode::FAILURE;

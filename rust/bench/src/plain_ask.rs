@@ -1,42 +1,32 @@
 //! The plain twin of an ask, as one would write it in Rust for speed and clarity, without proofs:
-//! the file by the plain reader, then the walk that the proved code makes, with the same tests,
-//! bound, blame and notes in the same order, so that block and table agree word by word. What
-//! stands is changed in place and changed back, and a week's tally has what its run costs.
-//!
-//! Units and weeks count from 0; starts count from 1, as in words.
+//! the file by the plain reader, then prices, probes and the walk that the proved code makes, so
+//! that block and table agree word by word.
 
 use crate::plain::{self, VALUE};
-use crate::plain_week::{self, NO_RUN};
+use crate::plain_file::File;
+use crate::plain_memo::{query, Memo};
+use crate::plain_notes::Notes;
+use crate::plain_prices;
+use crate::plain_tuning::{Tuning, TUNED};
+use crate::plain_walk::{Spent, Walk};
+use crate::plain_week;
 use reference::Refusal;
 
 /// The kind of an ask's first word, its ceiling.
 const CEILING: u32 = 11;
 /// The kind of its second word, its budget.
 const BUDGET: u32 = 12;
-/// The kind of a conflict's first word, its bound.
-const BOUND: u32 = 13;
-/// The kind of the words after it, its choices.
-const CHOICE: u32 = 14;
-/// The most choices that a conflict has.
-const MOST_CHOICES: u32 = 8;
-/// So many of the table's last words are kept for conflicts without choices.
-const KEPT_FREE: usize = 32;
-/// How many words of the table a try looks at.
-const WINDOW: usize = 64;
-
-/// Units, as the bits of a word.
-type Units = u32;
 
 /// What an ask took.
 #[derive(Clone, Copy, Debug, Default, PartialEq, Eq)]
 pub struct Effort {
-    /// The tries.
+    /// The tries, those of probes too.
     pub tries: u32,
-    /// The weeks of the overhauls that were tried.
-    pub weeks: u64,
-    /// The cheapest runs that the memo was asked for.
+    /// The walks.
+    pub walks: u32,
+    /// What the memo was asked for.
     pub lookups: u64,
-    /// Those that it did not have.
+    /// The cheapest runs that it did not have.
     pub misses: u64,
 }
 
@@ -50,20 +40,47 @@ pub fn ask(
     table: &mut [u32],
     scratch: &mut [u32],
 ) -> Result<Effort, Refusal> {
+    tuned_ask(words, ask, answer, table, scratch, &TUNED)
+}
+
+/// Answers one ask with other settings.
+pub fn tuned_ask(
+    words: &[u32],
+    ask: &[u32; 2],
+    answer: &mut [u32],
+    table: &mut [u32],
+    scratch: &mut [u32],
+    tuning: &Tuning,
+) -> Result<Effort, Refusal> {
     plain::read(words)?;
     let file = File::new(words);
     accept_ask(ask)?;
     file.accept_lent(answer.len(), table.len(), scratch.len())?;
     table.fill(0);
     scratch.fill(0);
+    let answer = &mut answer[..2 + 2 * file.units.len() + file.weeks];
+    answer.fill(0);
     let [ceiling, budget] = ask.map(|word| word & VALUE);
-    let mut walk = Walk::new(&file, ceiling, budget, table, scratch);
-    let ended = walk.run();
+    let mut memo = Memo::new(words, scratch);
+    let mut notes = Notes::new(table, tuning.choices);
+    let Some(prices) = plain_prices::find(&file, &mut memo, tuning) else {
+        answer[0] = 2;
+        notes.conclude(u64::from(ceiling) + 1);
+        return Ok(Effort::default());
+    };
+    let probes = Probes::new(prices.root, ceiling, budget, tuning);
+    let mut walk = Walk::new(&file, tuning, prices, notes, memo);
+    let (ended, walks) = probes.run(&mut walk);
     if ended.is_ok() {
         walk.notes.conclude(walk.limit);
     }
-    walk.write_block(ended, answer);
-    Ok(walk.effort())
+    write_block(&file, &walk, ended, answer);
+    Ok(Effort {
+        tries: walk.tries,
+        walks,
+        lookups: walk.memo.lookups,
+        misses: walk.memo.misses,
+    })
 }
 
 /// The refusals of an ask's own words.
@@ -80,313 +97,79 @@ fn accept_ask(ask: &[u32; 2]) -> Result<(), Refusal> {
     Ok(())
 }
 
-/// What the walk reads of an accepted file.
-struct File<'a> {
-    words: &'a [u32],
-    weeks: usize,
-    crews: u32,
-    units: Vec<Unit>,
-    /// The words of the maintenance costs, by week, then unit.
-    maint: &'a [u32],
-}
-
-#[derive(Clone, Copy)]
-struct Unit {
-    /// The first permitted start.
-    first: u8,
-    /// The last; before the first where no start is permitted.
-    last: u8,
-    /// The weeks that the overhaul takes.
-    duration: usize,
-    /// The units that form an excluded pair with it.
-    partners: Units,
-}
-
-impl<'a> File<'a> {
-    fn new(words: &'a [u32]) -> Self {
-        let [weeks, count, crews] = [0, 1, 2].map(|place| words[place] & VALUE);
-        let (triples, rest) = words[3 + weeks as usize..].split_at(3 * count as usize);
-        let (maint, rest) = rest.split_at((weeks * count) as usize);
-        let pairs = &rest[maint.len()..rest.len() - 1];
-        let triples = triples.chunks_exact(3).enumerate();
-        File {
-            words,
-            weeks: weeks as usize,
-            crews,
-            units: triples
-                .map(|(unit, triple)| Unit::new(triple, weeks, partners(pairs, unit)))
-                .collect(),
-            maint,
-        }
-    }
-
-    /// The refusals of the lent words.
-    fn accept_lent(&self, answer: usize, table: usize, scratch: usize) -> Result<(), Refusal> {
-        if !(64..=16_384).contains(&table) {
-            return plain::refuse(13, 0);
-        }
-        if answer < 2 + 2 * self.units.len() + self.weeks {
-            return plain::refuse(14, 0);
-        }
-        if scratch < 1 << self.units.len() {
-            return plain::refuse(15, 0);
-        }
-        Ok(())
-    }
-
-    fn maint_cost(&self, week: usize, unit: usize) -> u64 {
-        u64::from(self.maint[week * self.units.len() + unit] & VALUE)
-    }
-
-    /// What a unit's overhaul costs at least.
-    fn least_upkeep(&self, unit: usize) -> u64 {
-        let Unit { first, last, .. } = self.units[unit];
-        let upkeep = |start| {
-            let weeks = self.units[unit].weeks_from(start);
-            weeks.map(|week| self.maint_cost(week, unit)).sum()
-        };
-        (first..=last).map(upkeep).min().unwrap_or(0)
-    }
-}
-
-impl Unit {
-    fn new(triple: &[u32], weeks: u32, partners: Units) -> Self {
-        let (window, duration) = (triple[1] & VALUE, triple[2] & VALUE);
-        Unit {
-            first: (window / 64) as u8,
-            last: (window % 64).min(weeks - duration + 1) as u8,
-            duration: duration as usize,
-            partners,
-        }
-    }
-
-    /// The weeks in which the unit is out when it starts then.
-    fn weeks_from(&self, start: u8) -> std::ops::Range<usize> {
-        let first = usize::from(start) - 1;
-        first..first + self.duration
-    }
-}
-
-/// The units that form an excluded pair with a unit, by the words of the pairs.
-fn partners(pairs: &[u32], unit: usize) -> Units {
-    let pair = |word: &u32| (1 << ((word & VALUE) / 32) | 1 << (word % 32)) >> 1;
-    let of_unit = |pair: &Units| pair >> unit & 1 == 1;
-    let all = pairs.iter().map(pair).filter(of_unit);
-    all.fold(0, |all, pair| all | pair) & !(1 << unit)
-}
-
-/// A week: the units out of it, their number, and what the cheapest run of the others costs.
-#[derive(Clone, Copy, Default)]
-struct Tally {
-    out: Units,
-    count: u32,
-    run: u32,
-}
-
-/// The budget is spent, with the starts of so many units as the mark.
-struct Spent(usize);
-
-/// The depth-first walk. A set of units is to blame where no schedule that costs less than the
-/// limit has their starts.
-struct Walk<'a> {
-    file: &'a File<'a>,
+/// The walks of an ask: at rising ceilings first, which share one budget, then at its own.
+struct Probes {
+    root: u64,
+    first_gap: u64,
+    last_gap: u64,
+    growth: u64,
+    ceiling: u64,
     budget: u32,
-    /// What the units from each on cost at least.
-    rest: [u64; 17],
-    /// The starts of the units that stand; the others' are of no account.
-    starts: [u8; 16],
-    /// Each week with those units out.
-    rows: [Tally; 52],
-    /// The tallies that were replaced, by the order in which they were.
-    replaced: Vec<Tally>,
-    /// The first cost that is too much.
-    limit: u64,
-    best: Option<[u8; 16]>,
-    notes: Notes<'a>,
-    memo: Memo<'a>,
-    tries: u32,
-    tried_weeks: u64,
 }
 
-impl<'a> Walk<'a> {
-    fn new(
-        file: &'a File,
-        ceiling: u32,
-        budget: u32,
-        table: &'a mut [u32],
-        scratch: &'a mut [u32],
-    ) -> Self {
-        let mut rest = [0; 17];
-        for unit in (0..file.units.len()).rev() {
-            rest[unit] = rest[unit + 1] + file.least_upkeep(unit);
-        }
-        Walk {
-            file,
+impl Probes {
+    fn new(root: u64, ceiling: u32, budget: u32, tuning: &Tuning) -> Self {
+        let last_gap = root / tuning.last_gap;
+        Probes {
+            root,
+            first_gap: (root / tuning.first_gap).max(1),
+            last_gap: if tuning.probes { last_gap } else { 0 },
+            growth: tuning.growth,
+            ceiling: u64::from(ceiling),
             budget,
-            rest,
-            starts: [0; 16],
-            rows: [Tally::default(); 52],
-            replaced: vec![],
-            limit: u64::from(ceiling) + 1,
-            best: None,
-            notes: Notes::new(table),
-            memo: Memo::new(file.words, scratch),
-            tries: 0,
-            tried_weeks: 0,
         }
     }
 
-    /// Walks from the first place on, until no schedule below the limit is left.
-    fn run(&mut self) -> Result<(), Spent> {
-        if self.file.units.iter().any(|unit| unit.last < unit.first) {
-            return Ok(());
-        }
-        let mut sum = 0;
-        for week in 0..self.file.weeks {
-            let Some(run) = self.memo.least_cost(week, 0) else {
-                return Ok(());
-            };
-            self.rows[week].run = run;
-            sum += u64::from(run);
-        }
-        if self.is_below_limit(0, sum) {
-            self.place(0, sum)?;
-        }
-        Ok(())
-    }
-
-    /// Whether the units that do not stand, from this one on, may keep the whole below the limit.
-    fn is_below_limit(&self, unit: usize, sum: u64) -> bool {
-        sum + self.rest[unit] < self.limit
-    }
-
-    /// Tries the starts of a unit in turn, where those before it stand and the weeks cost this
-    /// sum; the units to blame. Where the unit is not one of them its other starts are no better.
-    fn place(&mut self, unit: usize, sum: u64) -> Result<Units, Spent> {
-        let Unit { first, last, .. } = self.file.units[unit];
-        let mut blame = 0;
-        for start in first..=last {
-            self.starts[unit] = start;
-            let units = self.try_start(unit, sum)?;
-            if units >> unit & 1 == 0 {
-                return Ok(units);
+    /// Walks until one ends with a plan, or that at the ask's ceiling ends: how that one ends, and
+    /// how many there were.
+    fn run(&self, walk: &mut Walk) -> (Result<(), Spent>, u32) {
+        let (mut gap, mut left, mut walks) = (self.first_gap, self.budget, 1);
+        while gap <= self.last_gap && self.root + gap < self.ceiling && left > 0 {
+            let ended = walk.run(self.root + gap + 1, left);
+            walks += 1;
+            if ended.is_err() {
+                walk.best = None;
+                break;
             }
-            blame |= units & !(1 << unit);
-        }
-        self.notes.add(&self.starts[..unit], blame, self.limit);
-        Ok(blame)
-    }
-
-    /// Tries a unit's start, and places the next unit where it holds; the units to blame.
-    fn try_start(&mut self, unit: usize, sum: u64) -> Result<Units, Spent> {
-        if self.tries == self.budget {
-            return Err(Spent(unit + 1));
-        }
-        self.tries += 1;
-        self.tried_weeks += self.file.units[unit].duration as u64;
-        if let Some(units) = self.notes.recall(&self.starts[..=unit], self.limit) {
-            return Ok(units);
-        }
-        let kept = self.replaced.len();
-        let blame = match self.put_out(unit, sum) {
-            Ok(sum) => self.go_on(unit + 1, sum)?,
-            Err(units) => units,
-        };
-        self.put_back(unit, kept);
-        Ok(blame)
-    }
-
-    /// Puts a unit out in the weeks of its overhaul, in turn as far as the rules allow: what the
-    /// weeks cost then, where that is below the limit; or the units to blame.
-    fn put_out(&mut self, unit: usize, mut sum: u64) -> Result<u64, Units> {
-        let Unit { partners, .. } = self.file.units[unit];
-        for week in self.file.units[unit].weeks_from(self.starts[unit]) {
-            let before = self.rows[week];
-            let out = before.out | 1 << unit;
-            let clash = before.out & partners;
-            if clash != 0 {
-                return Err(clash | 1 << unit);
+            if walk.best.is_some() {
+                return (ended, walks - 1);
             }
-            if before.count == self.file.crews {
-                return Err(out);
-            }
-            let run = self.memo.least_cost(week, out).ok_or(out)?;
-            sum += self.file.maint_cost(week, unit) + u64::from(run) - u64::from(before.run);
-            self.replaced.push(before);
-            let count = before.count + 1;
-            self.rows[week] = Tally { out, count, run };
+            (gap, left) = (gap * self.growth, walk.left);
         }
-        if self.is_below_limit(unit + 1, sum) {
-            Ok(sum)
-        } else {
-            Err((2 << unit) - 1)
-        }
+        (walk.run(self.ceiling + 1, self.budget), walks)
     }
+}
 
-    /// Takes back what was put out of a unit since so many tallies were replaced.
-    fn put_back(&mut self, unit: usize, kept: usize) {
-        let weeks = self.file.units[unit].weeks_from(self.starts[unit]);
-        let rows = &mut self.rows[weeks];
-        for (row, before) in rows.iter_mut().zip(self.replaced.drain(kept..)) {
-            *row = before;
-        }
+/// Writes the block, which is all 0: status, cost, starts, runs, mark.
+fn write_block(file: &File, walk: &Walk, ended: Result<(), Spent>, block: &mut [u32]) {
+    let units = file.units.len();
+    block[0] = match (&ended, walk.best) {
+        (Ok(()), Some(_)) => 1,
+        (Ok(()), None) => 2,
+        (Err(_), Some(_)) => 3,
+        (Err(_), None) => 4,
+    };
+    if let Some(best) = walk.best {
+        block[1] = walk.limit as u32;
+        copy_starts(&best[..units], &mut block[2..]);
+        write_runs(file, &best, &mut block[2 + units..]);
     }
-
-    /// Places the next unit; where there is none, the starts are the best so far.
-    fn go_on(&mut self, unit: usize, sum: u64) -> Result<Units, Spent> {
-        if unit < self.file.units.len() {
-            return self.place(unit, sum);
-        }
-        self.best = Some(self.starts);
-        self.limit = sum;
-        Ok((1 << unit) - 1)
+    if let Err(Spent(count)) = ended {
+        copy_starts(&walk.starts[..count], &mut block[2 + units + file.weeks..]);
     }
+}
 
-    fn effort(&self) -> Effort {
-        Effort {
-            tries: self.tries,
-            weeks: self.tried_weeks,
-            lookups: self.memo.lookups,
-            misses: self.memo.misses,
-        }
+/// Writes the number of each week's cheapest run when the units start then.
+fn write_runs(file: &File, starts: &[u8; 16], runs: &mut [u32]) {
+    let mut out = [0; 52];
+    for (unit, (of_unit, &start)) in file.units.iter().zip(starts).enumerate() {
+        out[of_unit.weeks_from(start)]
+            .iter_mut()
+            .for_each(|out| *out |= 1 << unit);
     }
-
-    /// Writes the block: status, cost, starts, runs, mark.
-    fn write_block(&self, ended: Result<(), Spent>, answer: &mut [u32]) {
-        let units = self.file.units.len();
-        let block = &mut answer[..2 + 2 * units + self.file.weeks];
-        block.fill(0);
-        block[0] = match (&ended, self.best) {
-            (Ok(()), Some(_)) => 1,
-            (Ok(()), None) => 2,
-            (Err(_), Some(_)) => 3,
-            (Err(_), None) => 4,
-        };
-        if let Some(best) = self.best {
-            block[1] = self.limit as u32;
-            copy_starts(&best[..units], &mut block[2..]);
-            self.write_runs(&best, &mut block[2 + units..]);
-        }
-        if let Err(Spent(count)) = ended {
-            copy_starts(
-                &self.starts[..count],
-                &mut block[2 + units + self.file.weeks..],
-            );
-        }
-    }
-
-    /// Writes the number of each week's cheapest run when the units start then.
-    fn write_runs(&self, starts: &[u8; 16], runs: &mut [u32]) {
-        let mut out = [0; 52];
-        for (unit, (of_unit, &start)) in self.file.units.iter().zip(starts).enumerate() {
-            out[of_unit.weeks_from(start)]
-                .iter_mut()
-                .for_each(|out| *out |= 1 << unit);
-        }
-        for week in 0..self.file.weeks {
-            let run = plain_week::cheapest(self.file.words, query(week, out[week]));
-            runs[week] = run.map_or(0, |(_, number)| number);
-        }
+    for week in 0..file.weeks {
+        let run = plain_week::cheapest(file.words, query(week, out[week]));
+        runs[week] = run.map_or(0, |(_, number)| number);
     }
 }
 
@@ -396,119 +179,11 @@ fn copy_starts(starts: &[u8], words: &mut [u32]) {
     }
 }
 
-/// The query for a week's cheapest run with these units out.
-fn query(week: usize, out: Units) -> u32 {
-    (week as u32 + 1) << 16 | out
-}
-
-/// The conflicts noted in the lent table: a bound and its choices after it.
-struct Notes<'a> {
-    table: &'a mut [u32],
-    /// How many words are in use.
-    used: usize,
-    /// For each unit, where the last conflict ends that was noted with it as its last unit.
-    ends: [usize; 16],
-}
-
-impl<'a> Notes<'a> {
-    fn new(table: &'a mut [u32]) -> Self {
-        Notes {
-            table,
-            used: 0,
-            ends: [0; 16],
-        }
-    }
-
-    /// Notes that no schedule below the limit has the starts of the units to blame, where those
-    /// are few and there is room.
-    fn add(&mut self, starts: &[u8], blame: Units, limit: u64) {
-        let count = blame.count_ones();
-        let room = self.table.len() - self.used > count as usize + KEPT_FREE;
-        if room && (1..=MOST_CHOICES).contains(&count) && limit > 0 {
-            self.conclude(limit);
-            for (unit, &start) in starts.iter().enumerate() {
-                if blame >> unit & 1 == 1 {
-                    self.push(CHOICE, (unit as u32 + 1) * 64 + u32::from(start));
-                }
-            }
-            self.ends[blame.ilog2() as usize] = self.used;
-        }
-    }
-
-    /// Notes that no schedule is below the limit at all.
-    fn conclude(&mut self, limit: u64) {
-        if limit > 0 {
-            self.push(BOUND, limit as u32 - 1);
-        }
-    }
-
-    fn push(&mut self, kind: u32, value: u32) {
-        self.table[self.used] = kind << 28 | value;
-        self.used += 1;
-    }
-
-    /// The units of a conflict that the starts meet, among those that begin in the words before the
-    /// last conflict's end that ends at the unit tried.
-    fn recall(&self, starts: &[u8], limit: u64) -> Option<Units> {
-        let end = self.ends[starts.len() - 1];
-        let noted = &self.table[end.saturating_sub(WINDOW)..end];
-        (1..).zip(noted).find_map(|(next, &word)| {
-            let holds = word >> 28 == BOUND && limit <= u64::from(word & VALUE) + 1;
-            holds.then(|| met(&noted[next..], starts)).flatten()
-        })
-    }
-}
-
-/// The units of the choices that words begin with, where the starts have them all.
-fn met(words: &[u32], starts: &[u8]) -> Option<Units> {
-    let mut choices = words.iter().take_while(|&&word| word >> 28 == CHOICE);
-    choices.try_fold(0, |units, word| {
-        let (unit, start) = ((word & VALUE) / 64 - 1, (word % 64) as u8);
-        let has = starts.get(unit as usize) == Some(&start);
-        has.then_some(units | 1 << unit)
-    })
-}
-
-/// What cheapest runs cost, kept in the lent scratch: a key made of the week and the units out, and
-/// the cost.
-struct Memo<'a> {
-    words: &'a [u32],
-    entries: &'a mut [[u32; 2]],
-    lookups: u64,
-    misses: u64,
-}
-
-impl<'a> Memo<'a> {
-    /// The memo over a file's words and the scratch, which is all 0 and has an entry at least.
-    fn new(words: &'a [u32], scratch: &'a mut [u32]) -> Self {
-        let (entries, _) = scratch.as_chunks_mut();
-        Memo {
-            words,
-            entries,
-            lookups: 0,
-            misses: 0,
-        }
-    }
-
-    /// What a week's cheapest run costs with these units out; none where there is no run.
-    fn least_cost(&mut self, week: usize, out: Units) -> Option<u32> {
-        let key = ((week as u32) << 16 | out) + 1;
-        let slot = key as usize * 2_654_435_761 / 65_536 % self.entries.len();
-        let entry = &mut self.entries[slot];
-        self.lookups += 1;
-        if entry[0] != key {
-            let run = plain_week::cheapest(self.words, query(week, out));
-            *entry = [key, run.map_or(NO_RUN, |(cost, _)| cost)];
-            self.misses += 1;
-        }
-        (entry[1] != NO_RUN).then_some(entry[1])
-    }
-}
-
 #[cfg(test)]
 mod tests {
-    use super::ask;
+    use super::{ask, tuned_ask};
     use crate::generated::small_plan;
+    use crate::plain_tuning::{Tuning, TUNED};
     use reference::{accept, block_len, check_run, encode, word, Ask, Lent, Plan, Status, Survey};
     use std::collections::{BTreeMap, BTreeSet};
 
@@ -516,44 +191,90 @@ mod tests {
     const MOST: u32 = (1 << 28) - 1;
 
     /// The status of the twin's answer; panics where anything is wrong with it.
-    fn checked(survey: &Survey, asked: Ask, table: usize, seed: u64) -> Status {
+    fn checked(survey: &Survey, asked: Ask, table: usize, tuning: &Tuning, seed: u64) -> Status {
         let plan = survey.plan();
         let (length, mut table) = (block_len(plan), vec![7; table]);
         let (mut answer, mut scratch) = (vec![7; length + 1], vec![7; 1 << plan.units]);
         let words = [word(11, asked.ceiling), word(12, asked.budget)];
-        let effort = ask(&encode(plan), &words, &mut answer, &mut table, &mut scratch);
+        let effort = tuned_ask(
+            &encode(plan),
+            &words,
+            &mut answer,
+            &mut table,
+            &mut scratch,
+            tuning,
+        );
         let tries = effort.expect("the file and the ask are accepted").tries;
-        let told = format!("{asked:?}, block {answer:?}, seed {seed}");
+        let told = format!("{asked:?}, block {answer:?}, {tuning:?}, seed {seed}");
         let (block, known) = (&answer[..length], &mut BTreeSet::new());
         let found = check_run(survey, &[asked], block, &table, known).expect(&told);
         let status = found.statuses[0];
         let spent = matches!(status, Status::Best | Status::Spent);
-        assert!(
-            tries == asked.budget || tries < asked.budget && !spent,
-            "{tries} tries, {told}"
-        );
+        assert!(tries <= 2 * asked.budget, "{tries} tries, {told}");
+        assert!(!spent || tries >= asked.budget, "{tries} tries, {told}");
         assert_eq!(answer[length], 7, "beyond the block, {told}");
         status
     }
 
-    /// 0, the cost of the cheapest schedule and one euro less, the largest that there is.
+    /// 0, the cost of the cheapest schedule and one euro less, some more, the largest that there
+    /// is.
     fn ceilings(survey: &Survey) -> Vec<u32> {
         let least = survey
             .cheapest(MOST)
             .map_or(0, |cheapest| cheapest.cost as u32);
-        vec![0, least.saturating_sub(1), least, MOST]
+        vec![0, least.saturating_sub(1), least, least + 3, MOST]
+    }
+
+    /// The settings that an ask takes, and others, so that each mechanism is seen at work alone and
+    /// missing, and probes are many though costs are small.
+    fn tunings() -> [Tuning; 7] {
+        let probing = Tuning {
+            first_gap: 16,
+            last_gap: 1,
+            ..TUNED
+        };
+        let bare = Tuning {
+            rounds: 0,
+            probes: false,
+            shrinks: false,
+            choices: 0,
+            ..probing
+        };
+        [
+            TUNED,
+            probing,
+            bare,
+            Tuning { rounds: 3, ..bare },
+            Tuning {
+                probes: true,
+                ..bare
+            },
+            Tuning {
+                shrinks: true,
+                choices: 8,
+                ..bare
+            },
+            Tuning {
+                rounds: 1,
+                choices: 8,
+                ..probing
+            },
+        ]
     }
 
     #[test]
     fn answers_on_small_files_are_as_the_reference_says() {
         let mut statuses = BTreeMap::<Status, usize>::new();
-        for seed in 0..600 {
+        let tunings = tunings();
+        for seed in 0..1400 {
             let survey = Survey::new(&small_plan(seed));
             let places = survey.places().len() as u32;
+            let tuning = &tunings[seed as usize % tunings.len()];
             for ceiling in ceilings(&survey) {
                 for budget in [1, 2, 3, places / 2 + 1, places + 1, MOST] {
                     let asked = Ask { ceiling, budget };
-                    let status = checked(&survey, asked, [64, 500][seed as usize % 2], seed);
+                    let table = [64, 500][seed as usize % 2];
+                    let status = checked(&survey, asked, table, tuning, seed);
                     *statuses.entry(status).or_default() += 1;
                 }
             }

@@ -13,13 +13,18 @@ pub fn heading() {
 
 /// Prints the machine, the build and the rounds.
 pub fn preamble(rounds: &str) {
+    told(&format!("medians, the ratios' too, of {rounds} in turns"));
+}
+
+/// Prints the machine, the build and what the figures are.
+pub fn told(figures: &str) {
     let build = if cfg!(debug_assertions) {
         "with debug assertions, not for comparison"
     } else {
         "release"
     };
     println!("machine: {}", machine());
-    println!("build: {build}; medians, the ratios' too, of {rounds} in turns");
+    println!("build: {build}; {figures}");
     println!();
 }
 

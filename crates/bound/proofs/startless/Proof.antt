@@ -6,7 +6,7 @@ use mathlib.Core.Bool.{false}
 use Rattle.sums.specs.Range.{someTo}
 use Rattle.model.specs.Words.{problemOf}
 use Rattle.bound.specs.Tests.{noStart}
-use Rattle.bound.proofs.FloorLaws.{startless-found, startless-next, startless-ended}
+use Rattle.bound.proofs.StartlessLaws.{startless-found, startless-next, startless-ended}
 use borrow.Author.Needs.{needs}
 use Rattle.bound.proofs.startless.Statement.{statement}
 use Rattle.bound.proofs.startless.Tie as tie

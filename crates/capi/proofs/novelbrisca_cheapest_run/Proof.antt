@@ -1,6 +1,6 @@
 -- `capi::novelbrisca_cheapest_run` meets its contract: the quote of `quotes::cheapest_run`.
 -- Assumes nothing.
-use Rattle.capi.proofs.CodeLaws.{codes}
+use Rattle.codes.proofs.CodeLaws.{codes}
 use borrow.Author.Needs.{needs}
 use Rattle.capi.proofs.novelbrisca_cheapest_run.Statement.{statement}
 use Rattle.capi.proofs.novelbrisca_cheapest_run.Tie as tie

@@ -1,6 +1,7 @@
 -- `capi::novelbrisca_draw` meets its contract: the verdict and the bytes of `schedule::draw`.
 -- Assumes nothing.
-use Rattle.capi.proofs.CodeLaws.{codes}
+use Rattle.codes.proofs.CodeLaws.{codes}
+use Rattle.capi.proofs.ExportLaws.{memory}
 use borrow.Author.Needs.{needs}
 use Rattle.capi.proofs.novelbrisca_draw.Statement.{statement}
 use Rattle.capi.proofs.novelbrisca_draw.Tie as tie
@@ -15,7 +16,7 @@ same-length : tie.Need-same-length
 same-length c = search needs
 
 returns : tie.Need-returns
-returns c = (search codes, search codes)
+returns c = (search codes, search memory)
 
 pub novelbrisca-draw-spec : {M : Type 1} → statement M
 novelbrisca-draw-spec =

@@ -1,6 +1,6 @@
 -- `capi::novelbrisca_judge` meets its contract: the judgement of `checker::judge`.
 -- Assumes nothing.
-use Rattle.capi.proofs.CodeLaws.{codes}
+use Rattle.codes.proofs.CodeLaws.{codes}
 use borrow.Author.Needs.{needs}
 use Rattle.capi.proofs.novelbrisca_judge.Statement.{statement}
 use Rattle.capi.proofs.novelbrisca_judge.Tie as tie

@@ -1,6 +1,6 @@
 -- `capi::novelbrisca_judge_place` meets its contract: the judgement of `checker::judge`.
 -- Assumes nothing.
-use Rattle.capi.proofs.CodeLaws.{codes}
+use Rattle.codes.proofs.CodeLaws.{codes}
 use borrow.Author.Needs.{needs}
 use Rattle.capi.proofs.novelbrisca_judge_place.Statement.{statement}
 use Rattle.capi.proofs.novelbrisca_judge_place.Tie as tie

@@ -1,6 +1,7 @@
 -- `capi::novelbrisca_load` meets its contract: the answer and the words of `decoder::load`.
 -- Assumes nothing.
-use Rattle.capi.proofs.CodeLaws.{codes}
+use Rattle.codes.proofs.CodeLaws.{codes}
+use Rattle.capi.proofs.ExportLaws.{memory}
 use borrow.Author.Needs.{needs}
 use Rattle.capi.proofs.novelbrisca_load.Statement.{statement}
 use Rattle.capi.proofs.novelbrisca_load.Tie as tie
@@ -15,7 +16,7 @@ same-length : tie.Need-same-length
 same-length c = search needs
 
 returns : tie.Need-returns
-returns c = (search codes, search codes)
+returns c = (search codes, search memory)
 
 pub novelbrisca-load-spec : {M : Type 1} → statement M
 novelbrisca-load-spec =

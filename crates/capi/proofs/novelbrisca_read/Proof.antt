@@ -1,6 +1,6 @@
 -- `capi::novelbrisca_read` meets its contract: the verdict of `decoder::read`.
 -- Assumes nothing.
-use Rattle.capi.proofs.CodeLaws.{codes}
+use Rattle.codes.proofs.CodeLaws.{codes}
 use borrow.Author.Needs.{needs}
 use Rattle.capi.proofs.novelbrisca_read.Statement.{statement}
 use Rattle.capi.proofs.novelbrisca_read.Tie as tie

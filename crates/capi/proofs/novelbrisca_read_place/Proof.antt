@@ -1,6 +1,6 @@
 -- `capi::novelbrisca_read_place` meets its contract: the verdict of `decoder::read`.
 -- Assumes nothing.
-use Rattle.capi.proofs.CodeLaws.{codes}
+use Rattle.codes.proofs.CodeLaws.{codes}
 use borrow.Author.Needs.{needs}
 use Rattle.capi.proofs.novelbrisca_read_place.Statement.{statement}
 use Rattle.capi.proofs.novelbrisca_read_place.Tie as tie

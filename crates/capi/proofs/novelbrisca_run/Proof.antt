@@ -1,6 +1,7 @@
 -- `capi::novelbrisca_run` meets its contract: the verdict and the lent words of `planner::run`.
 -- Assumes nothing.
-use Rattle.capi.proofs.CodeLaws.{codes, run-outcome}
+use Rattle.codes.proofs.CodeLaws.{codes}
+use Rattle.capi.proofs.ExportLaws.{memory}
 use borrow.Author.Needs.{needs}
 use Rattle.capi.proofs.novelbrisca_run.Statement.{statement}
 use Rattle.capi.proofs.novelbrisca_run.Tie as tie
@@ -21,7 +22,7 @@ same-length-3 : tie.Need-same-length-3
 same-length-3 c = search needs
 
 returns : tie.Need-returns
-returns c = (search codes, search run-outcome)
+returns c = (search codes, search memory)
 
 pub novelbrisca-run-spec : {M : Type 1} → statement M
 novelbrisca-run-spec =

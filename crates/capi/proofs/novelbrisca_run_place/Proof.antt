@@ -1,6 +1,6 @@
 -- `capi::novelbrisca_run_place` meets its contract: the verdict of `asks::run_verdict`.
 -- Assumes nothing.
-use Rattle.capi.proofs.CodeLaws.{codes}
+use Rattle.codes.proofs.CodeLaws.{codes}
 use borrow.Author.Needs.{needs}
 use Rattle.capi.proofs.novelbrisca_run_place.Statement.{statement}
 use Rattle.capi.proofs.novelbrisca_run_place.Tie as tie

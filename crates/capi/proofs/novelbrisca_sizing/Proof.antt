@@ -1,6 +1,6 @@
 -- `capi::novelbrisca_sizing` meets its contract: the reply of `decoder::sizing`.
 -- Assumes nothing.
-use Rattle.capi.proofs.CodeLaws.{codes}
+use Rattle.codes.proofs.CodeLaws.{codes}
 use borrow.Author.Needs.{needs}
 use Rattle.capi.proofs.novelbrisca_sizing.Statement.{statement}
 use Rattle.capi.proofs.novelbrisca_sizing.Tie as tie

@@ -1,6 +1,6 @@
 -- `capi::novelbrisca_upkeep` meets its contract: the quote of `quotes::upkeep`.
 -- Assumes nothing.
-use Rattle.capi.proofs.CodeLaws.{codes}
+use Rattle.codes.proofs.CodeLaws.{codes}
 use borrow.Author.Needs.{needs}
 use Rattle.capi.proofs.novelbrisca_upkeep.Statement.{statement}
 use Rattle.capi.proofs.novelbrisca_upkeep.Tie as tie

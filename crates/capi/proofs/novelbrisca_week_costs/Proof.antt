@@ -1,6 +1,7 @@
 -- `capi::novelbrisca_week_costs` meets its contract: the verdict, the words and the scratch of `quotes::week_costs`.
 -- Assumes nothing.
-use Rattle.capi.proofs.CodeLaws.{codes}
+use Rattle.codes.proofs.CodeLaws.{codes}
+use Rattle.capi.proofs.ExportLaws.{memory}
 use borrow.Author.Needs.{needs}
 use Rattle.capi.proofs.novelbrisca_week_costs.Statement.{statement}
 use Rattle.capi.proofs.novelbrisca_week_costs.Tie as tie
@@ -18,7 +19,7 @@ same-length-2 : tie.Need-same-length-2
 same-length-2 c = search needs
 
 returns : tie.Need-returns
-returns c = (search codes, (search codes, search codes))
+returns c = (search codes, (search memory, search memory))
 
 pub novelbrisca-week-costs-spec : {M : Type 1} → statement M
 novelbrisca-week-costs-spec =

@@ -2,6 +2,7 @@
 -- Assumes nothing.
 use Rattle.planner.proofs.GoingLaws.{ask-few, ask-placed, turned}
 use borrow.Author.Needs.{needs}
+use borrow.Author.Needs.{needs}
 use Rattle.planner.proofs.answer.Statement.{statement}
 use Rattle.planner.proofs.answer.Tie as tie
 
@@ -12,10 +13,13 @@ budget-requires : tie.Need-budget-requires
 budget-requires c κs = search (needs, ask-few)
 
 reply-requires : tie.Need-reply-requires
-reply-requires c κs = search needs
+reply-requires c κs =
+    let a = c .before .before .before .before .before .before .before .before .before in
+    (a .pre .0 .filed, (c .before .before .before .ceiling .ensures .1, (a .pre .1 .1 .0, (a .pre .1 .1 .1 .0, a .pre .1 .1 .1 .1))))
 
 put-requires : tie.Need-put-requires
-put-requires c κs = (search ask-placed, search needs)
+put-requires c κs = let a = c .before .before .before .before .before .before .before .before .before .before .before .before .before .before .before
+    in (ask-placed _ _ _ _ _ _ (a .pre .0) (a .pre .1 .0), c .before .before .before .before .before .reply .ensures .0 .small)
 
 remembered-requires : tie.Need-remembered-requires
 remembered-requires c κs = search needs
@@ -30,7 +34,16 @@ same-length-3 : tie.Need-same-length-3
 same-length-3 c = search needs
 
 returns : tie.Need-returns
-returns c = (turned _ _ _ _ _ _ (c .before .before .before .before .before .before .before .before .before .before .before .before .before .before .before .before .before .before .before .pre .0) (c .before .before .before .before .before .before .before .before .before .before .before .before .before .before .before .before .before .before .before .pre .1 .0) _ _ _ _ _ _ _ _ _ (c .before .before .before .before .before .before .before .before .before .before .before .before .before .ceiling .ensures .0) (c .before .before .before .before .before .before .before .before .before .before .before .before .budget .ensures .0) (c .before .before .before .before .before .before .before .before .before .reply .ensures .0) (c .before .before .before .put .ensures) (c .remembered .ensures), c .before .before .before .before .before .before .before .before .before .reply .ensures .1)
+returns c =
+    let a = c .before .before .before .before .before .before .before .before .before .before .before .before .before .before .before .before .before
+    .before .before in
+    let r = c .before .before .before .before .before .before .before .before .before .reply .ensures in (
+      turned _ _ _ _ _ _ (a .pre .0) (a .pre .1 .0) _ _ _ _ _ _ _ _ _ (c .before .before .before .before .before .before .before .before .before
+          .before .before .before .before .ceiling .ensures .0) (c .before .before .before .before .before .before .before .before .before .before
+          .before .before .budget .ensures .0) (r .0) (c .before .before .before .put .ensures)
+          (c .remembered .ensures),
+      r .1,
+    )
 
 pub answer-spec : {M : Type 1} → statement M
 answer-spec =

@@ -1,0 +1,52 @@
+-- `bound::least_sum` meets its contract: the sum so far is that of the units so far.
+-- Assumes nothing.
+use Prim.Native.Nat.{_-_, _*_, _≤_}
+use mathlib.Core.Path.{_≡_}
+use Rattle.sums.specs.Sum.{sumTo}
+use Rattle.sums.proofs.LoopLaws.{sum-start}
+use Rattle.dual.specs.Dual.{leastIn}
+use Rattle.bound.proofs.TestLaws.{least-next, least-ended}
+use borrow.Author.Needs.{needs}
+use Rattle.bound.proofs.least_sum.Statement.{statement}
+use Rattle.bound.proofs.least_sum.Tie as tie
+
+abbrev Inv-loop : tie.InvT-loop
+Inv-loop words costs units sum₀ i₀ sum i = (i ≤ units) × (units ≤ 16) × (sum .0 ≤ 4294967296 * i) × (sum .0 ≡ sumTo i (leastIn costs))
+
+abbrev μ-loop : tie.MeasureT-loop
+μ-loop words costs units sum₀ i₀ sum i = units - i
+
+loop-holds : tie.Need-loop-holds Inv-loop μ-loop
+loop-holds c = (search needs, search needs, search needs, search sum-start)
+
+excess-requires : tie.Need-excess-requires Inv-loop μ-loop
+excess-requires c κs = search needs
+
+plus-requires : tie.Need-plus-requires Inv-loop μ-loop
+plus-requires c κs = search needs
+
+add-i : tie.Need-add-i Inv-loop μ-loop
+add-i c = search needs
+
+loop-less : tie.Need-loop-less Inv-loop μ-loop
+loop-less c = search needs
+
+loop-again : tie.Need-loop-again Inv-loop μ-loop
+loop-again c = (search needs, search needs, search needs, search least-next)
+
+returns : tie.Need-returns Inv-loop μ-loop
+returns c = (search least-ended, search needs)
+
+pub least-sum-spec : {M : Type 1} → statement M
+least-sum-spec =
+    tie.close
+    (tie.spec
+    Inv-loop
+    μ-loop
+    loop-holds
+    excess-requires
+    plus-requires
+    add-i
+    loop-less
+    loop-again
+    returns)

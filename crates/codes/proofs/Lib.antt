@@ -1,0 +1,2 @@
+-- answers as numbers
+pub mod CodeLaws

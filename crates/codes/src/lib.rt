@@ -1,0 +1,80 @@
+// Answers as plain numbers, for callers that have no enums: a refusal's number and its place, the number given, a judgement and a quote as one
+// number each.
+ghost use mathlib.Core.Path.{_≡_};
+ghost use Rattle.decoder.specs.Answers.{verdictOf, replyOf};
+ghost use Rattle.checker.specs.Answers.{judgementOf};
+ghost use Rattle.quotes.specs.Answers.{quotedOf};
+ghost use Rattle.codes.specs.Codes.{refusedBy, refusedAt, deniedBy, given, judgedCode, judgedPlace, quotedCode};
+
+// The number of a verdict's refusal.
+pub fn refusal_number(v: decoder::Verdict) -> u32
+    ensures { λ r. ⌜ r ≡ refusedBy (verdictOf v) ⌝ }
+{
+    match v {
+        decoder::Verdict::Accepted => 0,
+        decoder::Verdict::Refused(number, place) => number,
+    }
+}
+
+// The place of a verdict's refusal.
+pub fn refusal_place(v: decoder::Verdict) -> usize
+    ensures { λ r. ⌜ r ≡ refusedAt (verdictOf v) ⌝ }
+{
+    match v {
+        decoder::Verdict::Accepted => 0,
+        decoder::Verdict::Refused(number, place) => place,
+    }
+}
+
+// The number of a reply's refusal.
+pub fn denial_number(reply: decoder::Reply) -> u32
+    ensures { λ r. ⌜ r ≡ deniedBy (replyOf reply) ⌝ }
+{
+    match reply {
+        decoder::Reply::Number(n) => 0,
+        decoder::Reply::Denied(number, place) => number,
+    }
+}
+
+// The number that a reply gives, 0 where it is a refusal.
+pub fn number_given(reply: decoder::Reply) -> usize
+    ensures { λ r. ⌜ r ≡ given (replyOf reply) ⌝ }
+{
+    match reply {
+        decoder::Reply::Number(n) => n,
+        decoder::Reply::Denied(number, place) => 0,
+    }
+}
+
+// A judgement as one number.
+pub fn judgement_code(j: checker::Judgement) -> u64
+    ensures { λ r. ⌜ r ≡ judgedCode (judgementOf j) ⌝ }
+{
+    match j {
+        checker::Judgement::Sound(cost) => cost,
+        checker::Judgement::Breaks(number) => 4294967296 + number as u64,
+        checker::Judgement::Rejected(number, place) => 8589934592 + number as u64,
+    }
+}
+
+// The place of a judgement's refusal.
+pub fn judgement_place(j: checker::Judgement) -> usize
+    ensures { λ r. ⌜ r ≡ judgedPlace (judgementOf j) ⌝ }
+{
+    match j {
+        checker::Judgement::Sound(cost) => 0,
+        checker::Judgement::Breaks(number) => 0,
+        checker::Judgement::Rejected(number, place) => place,
+    }
+}
+
+// A quote as one number.
+pub fn quote_code(quote: quotes::Quote) -> u64
+    ensures { λ r. ⌜ r ≡ quotedCode (quotedOf quote) ⌝ }
+{
+    match quote {
+        quotes::Quote::Nothing => 4611686018427387904,
+        quotes::Quote::Given(number, cost) => cost as u64 * 4294967296 + number as u64,
+        quotes::Quote::Refused(number, place) => 9223372036854775808 + number as u64,
+    }
+}

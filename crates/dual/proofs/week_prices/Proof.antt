@@ -1,0 +1,51 @@
+-- `dual::week_prices` meets its contract: the sum so far is that of the units so far.
+-- Assumes nothing.
+use Prim.Native.Nat.{_-_, _*_, _≤_}
+use mathlib.Core.Path.{_≡_}
+use Rattle.sums.specs.Sum.{sumTo}
+use Rattle.sums.proofs.LoopLaws.{sum-start, sum-next, sum-ended}
+use Rattle.relaxation.specs.Relaxed.{priceIn}
+use borrow.Author.Needs.{needs}
+use Rattle.dual.proofs.week_prices.Statement.{statement}
+use Rattle.dual.proofs.week_prices.Tie as tie
+
+abbrev Inv-loop : tie.InvT-loop
+Inv-loop prices t units sum₀ i₀ sum i = (i ≤ units) × (units ≤ 16) × (sum .0 ≤ 4194304 * i) × (sum .0 ≡ sumTo i (priceIn prices t))
+
+abbrev μ-loop : tie.MeasureT-loop
+μ-loop prices t units sum₀ i₀ sum i = units - i
+
+loop-holds : tie.Need-loop-holds Inv-loop μ-loop
+loop-holds c = (search needs, search needs, search needs, search sum-start)
+
+price-of-requires : tie.Need-price-of-requires Inv-loop μ-loop
+price-of-requires c κs = search needs
+
+plus-requires : tie.Need-plus-requires Inv-loop μ-loop
+plus-requires c κs = search needs
+
+add-i : tie.Need-add-i Inv-loop μ-loop
+add-i c = search needs
+
+loop-less : tie.Need-loop-less Inv-loop μ-loop
+loop-less c = search needs
+
+loop-again : tie.Need-loop-again Inv-loop μ-loop
+loop-again c = (search needs, search needs, search needs, search sum-next)
+
+returns : tie.Need-returns Inv-loop μ-loop
+returns c = (search sum-ended, search needs)
+
+pub week-prices-spec : {M : Type 1} → statement M
+week-prices-spec =
+    tie.close
+    (tie.spec
+    Inv-loop
+    μ-loop
+    loop-holds
+    price-of-requires
+    plus-requires
+    add-i
+    loop-less
+    loop-again
+    returns)

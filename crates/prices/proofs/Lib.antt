@@ -1,0 +1,2 @@
+-- what prices, pushes and steps keep to
+mod RangeLaws

@@ -1,0 +1,98 @@
+-- `prices::least_start` meets its contract: costs so far are no more than the first and a week for each turn.
+-- Assumes nothing.
+use Prim.Native.Nat.{_+_, _-_, _*_, _≤_}
+use Rattle.prices.proofs.RangeLaws.{first-ends, last-ends}
+use borrow.Author.Needs.{needs}
+use Rattle.prices.proofs.least_start.Statement.{statement}
+use Rattle.prices.proofs.least_start.Tie as tie
+
+abbrev Inv-loop : tie.InvT-loop
+Inv-loop words l prices i start last duration cost₀ least₀ s₀ cost least s =
+    (last + duration ≤ l .weeks + 1) × (1 ≤ s) × (l .weeks ≤ 52) × (cost ≤ 268435456 + 4444304 * s)
+    × (least .cost ≤ 1099511627776) × (least .start ≤ 52)
+
+abbrev μ-loop : tie.MeasureT-loop
+μ-loop words l prices i start last duration cost₀ least₀ s₀ cost least s = last - s
+
+starts-of-requires : tie.Need-starts-of-requires Inv-loop μ-loop
+starts-of-requires c κs = search needs
+
+returns : tie.Need-returns Inv-loop μ-loop
+returns c = search needs
+
+duration-requires : tie.Need-duration-requires Inv-loop μ-loop
+duration-requires c κs = search needs
+
+sub-first-cost : tie.Need-sub-first-cost Inv-loop μ-loop
+sub-first-cost c = search needs
+
+first-cost-requires : tie.Need-first-cost-requires Inv-loop μ-loop
+first-cost-requires c κs = (search needs, ((search needs, search first-ends), search needs))
+
+loop-holds : tie.Need-loop-holds Inv-loop μ-loop
+loop-holds c = (search last-ends, search needs, search needs, search needs, search needs, search needs)
+
+sub-week-cost : tie.Need-sub-week-cost Inv-loop μ-loop
+sub-week-cost c = search needs
+
+week-cost-requires : tie.Need-week-cost-requires Inv-loop μ-loop
+week-cost-requires c κs = (search needs, ((search needs, search needs), search needs))
+
+above-requires : tie.Need-above-requires Inv-loop μ-loop
+above-requires c κs = search needs
+
+sub-week-cost-2 : tie.Need-sub-week-cost-2 Inv-loop μ-loop
+sub-week-cost-2 c = search needs
+
+add-week-cost : tie.Need-add-week-cost Inv-loop μ-loop
+add-week-cost c = search needs
+
+week-cost-requires-2 : tie.Need-week-cost-requires-2 Inv-loop μ-loop
+week-cost-requires-2 c κs = (search needs, ((search needs, search needs), search needs))
+
+add-cost : tie.Need-add-cost Inv-loop μ-loop
+add-cost c = search needs
+
+add-lesser : tie.Need-add-lesser Inv-loop μ-loop
+add-lesser c = search needs
+
+lesser-requires : tie.Need-lesser-requires Inv-loop μ-loop
+lesser-requires c κs = search needs
+
+add-s : tie.Need-add-s Inv-loop μ-loop
+add-s c = search needs
+
+loop-less : tie.Need-loop-less Inv-loop μ-loop
+loop-less c = search needs
+
+loop-again : tie.Need-loop-again Inv-loop μ-loop
+loop-again c = search needs
+
+returns-2 : tie.Need-returns-2 Inv-loop μ-loop
+returns-2 c = search needs
+
+pub least-start-spec : {M : Type 1} → statement M
+least-start-spec =
+    tie.close
+    (tie.spec
+    Inv-loop
+    μ-loop
+    starts-of-requires
+    returns
+    duration-requires
+    sub-first-cost
+    first-cost-requires
+    loop-holds
+    sub-week-cost
+    week-cost-requires
+    above-requires
+    sub-week-cost-2
+    add-week-cost
+    week-cost-requires-2
+    add-cost
+    add-lesser
+    lesser-requires
+    add-s
+    loop-less
+    loop-again
+    returns-2)

@@ -1,0 +1,54 @@
+-- `prices::moved` meets its contract: the change is in range, a price that falls was, and one that rises is capped.
+-- Assumes nothing.
+use borrow.Author.Needs.{needs}
+use Rattle.prices.proofs.moved.Statement.{statement}
+use Rattle.prices.proofs.moved.Tie as tie
+
+strength-requires : tie.Need-strength-requires
+strength-requires c κs = search needs
+
+change-requires : tie.Need-change-requires
+change-requires c κs = search needs
+
+amount-requires : tie.Need-amount-requires
+amount-requires c κs = search needs
+
+above-requires : tie.Need-above-requires
+above-requires c κs = search needs
+
+cast-result : tie.Need-cast-result
+cast-result c = search needs
+
+returns : tie.Need-returns
+returns c = search needs
+
+amount-requires-2 : tie.Need-amount-requires-2
+amount-requires-2 c κs = search needs
+
+add-capped : tie.Need-add-capped
+add-capped c = search needs
+
+capped-requires : tie.Need-capped-requires
+capped-requires c κs = search needs
+
+cast-result-2 : tie.Need-cast-result-2
+cast-result-2 c = search needs
+
+returns-2 : tie.Need-returns-2
+returns-2 c = search needs
+
+pub moved-spec : {M : Type 1} → statement M
+moved-spec =
+    tie.close
+    (tie.spec
+    strength-requires
+    change-requires
+    amount-requires
+    above-requires
+    cast-result
+    returns
+    amount-requires-2
+    add-capped
+    capped-requires
+    cast-result-2
+    returns-2)

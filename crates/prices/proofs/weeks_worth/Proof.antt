@@ -1,0 +1,73 @@
+-- `prices::weeks_worth` meets its contract: the sum so far has less than 2^28 for each week, and the memory is right.
+-- Assumes nothing.
+use Prim.Native.Nat.{_-_, _*_, _≤_}
+use mathlib.Core.Path.{_≡_, refl}
+use lib.ListN.{length}
+use Rattle.model.specs.Words.{problemOf}
+use Rattle.memo.specs.Memo.{Right, Others}
+use Rattle.memo.proofs.EntryLaws.{others-same, others-trans}
+use borrow.Author.Needs.{needs}
+use Rattle.prices.proofs.weeks_worth.Statement.{statement}
+use Rattle.prices.proofs.weeks_worth.Tie as tie
+
+abbrev Inv-loop : tie.InvT-loop
+Inv-loop words l prices clashes wants₀ memo₀ weeks sum₀ t₀ wants memo sum t =
+    (t ≤ weeks) × (weeks ≤ 52) × (sum ≤ 268435456 * t) × Right (problemOf words) memo × Others memo₀ memo × (length memo ≡ length memo₀)
+
+abbrev μ-loop : tie.MeasureT-loop
+μ-loop words l prices clashes wants₀ memo₀ weeks sum₀ t₀ wants memo sum t = weeks - t
+
+loop-holds : tie.Need-loop-holds Inv-loop μ-loop
+loop-holds c = (search needs, search needs, search needs, search needs, search others-same, refl)
+
+best-choice-requires : tie.Need-best-choice-requires Inv-loop μ-loop
+best-choice-requires c κs = search needs
+
+same-length : tie.Need-same-length Inv-loop μ-loop
+same-length c = search needs
+
+returns : tie.Need-returns Inv-loop μ-loop
+returns c = (search needs, (search needs, search others-trans))
+
+mul-wants : tie.Need-mul-wants Inv-loop μ-loop
+mul-wants c = search needs
+
+element-write-wants : tie.Need-element-write-wants Inv-loop μ-loop
+element-write-wants c = search needs
+
+add-sum : tie.Need-add-sum Inv-loop μ-loop
+add-sum c = search needs
+
+add-t : tie.Need-add-t Inv-loop μ-loop
+add-t c = search needs
+
+loop-less : tie.Need-loop-less Inv-loop μ-loop
+loop-less c = search needs
+
+loop-again : tie.Need-loop-again Inv-loop μ-loop
+loop-again c = (search needs, search needs, search needs, search needs, search others-trans, search needs)
+
+same-length-2 : tie.Need-same-length-2 Inv-loop μ-loop
+same-length-2 c = search needs
+
+returns-2 : tie.Need-returns-2 Inv-loop μ-loop
+returns-2 c = search needs
+
+pub weeks-worth-spec : {M : Type 1} → statement M
+weeks-worth-spec =
+    tie.close
+    (tie.spec
+    Inv-loop
+    μ-loop
+    loop-holds
+    best-choice-requires
+    same-length
+    returns
+    mul-wants
+    element-write-wants
+    add-sum
+    add-t
+    loop-less
+    loop-again
+    same-length-2
+    returns-2)

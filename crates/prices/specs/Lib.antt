@@ -1,0 +1,2 @@
+-- what the arrays of a round and its state keep to
+pub mod Ranges

@@ -1,0 +1,103 @@
+-- The table of prices left: filled a unit at a time, and as a bound of what further units out can pay.
+-- Assumes nothing.
+use Prim.Native.Nat.{ℕ, _+_, _*_, _≤_, _<_}
+use mathlib.Core.Path.{_≡_, subst}
+use mathlib.Core.Bool.{Bool, true, false}
+use mathlib.Core.List.{List}
+use native.Mathlib.Nat.{mul-le-mul-right, le-trans, le-refl}
+use native.Mathlib.Numerals.{add-one}
+use native.Mathlib.Omega.{arith}
+use lib.Dec.{leb}
+use lib.ListN.{getD, length, set, replicate}
+use borrow.Author.Tests.{leb-true}
+use Rattle.sums.specs.Sum.{sumTo}
+use Rattle.sums.specs.NumSet.{NumSet, pick, away, has}
+use Rattle.sums.proofs.NumSetLaws.{sum-over}
+use Rattle.sums.proofs.LoopLaws.{zeros-at, place-next}
+use Rattle.model.specs.declared.Layout.{Layout}
+use Rattle.instance.specs.Filed.{Filed}
+use Rattle.relaxation.specs.Relaxed.{priceIn, Prices}
+use Rattle.relaxation.specs.Choosing.{notOut, Left, Spare}
+
+-- ---- one unit at a time
+
+-- a price fits a word
+pub price-fits : (xs : List ℕ) (k : ℕ) → Prices xs → getD xs k 0 < 18446744073709551616
+price-fits xs k h = omega (arith, h .small k)
+
+-- a unit that is out adds nothing
+pub part-out : (a : NumSet) (f : ℕ → ℕ) (i : ℕ) (b : Bool) → b ≡ a i → b ≡ true → 0 ≡ pick (away a) f i
+unfolding pick away
+part-out a f i b is e = rw (← is, e)
+
+-- another its price
+pub part-in : (a : NumSet) (f : ℕ → ℕ) (i r : ℕ) (b : Bool) → b ≡ a i → b ≡ false → r ≡ f i → r ≡ pick (away a) f i
+unfolding pick away
+part-in a f i r b is e v = rw (← is, e) v
+
+-- as many prices as units
+pub not-out-small : (xs : List ℕ) (t : ℕ) (a : NumSet) (k : ℕ) → Prices xs → notOut (priceIn xs) t a k ≤ k * 4194304
+unfolding notOut priceIn
+not-out-small xs t a k h = sum-over k 4194304 (away a) (priceIn xs t) (λ i l. h .small (t * 16 + i))
+
+-- nothing yet
+pub left-start : (u : ℕ → ℕ → ℕ) (t : ℕ) (a : NumSet) → Left u t a 0 (replicate 17 0)
+unfolding notOut sumTo
+left-start u t a = record { sums = λ k l. let z : k ≡ 0 = omega arith in rw z (zeros-at 17 0) }
+
+-- a sum of the table fits a word, with a price more
+pub left-fits : (xs table : List ℕ) (t n units v : ℕ) (a : NumSet) → Prices xs → Left (priceIn xs) t a n table → n < units → units ≤ 16
+    → v ≤ 4194304 → getD table n 0 + v < 18446744073709551616
+left-fits xs table t n units v a h left b few m = omega (arith, left .sums n (omega arith), not-out-small xs t a n h)
+
+-- one unit more
+pub left-next : (u : ℕ → ℕ → ℕ) (t : ℕ) (a : NumSet) (n units v r : ℕ) (table : List ℕ) → Left u t a n table → length table ≡ 17 → n < units
+    → units ≤ 16 → v ≡ pick (away a) (u t) n → r ≡ getD table n 0 + v → Left u t a (n + 1) (set table (n + 1) r)
+unfolding notOut sumTo
+left-next u t a n units v r table left long b few is sum = record {
+  sums = λ k l. place-next (λ j w. w ≡ notOut u t a j) table (n + 1) r (omega arith) new (λ j m. left .sums j (omega arith)) k (omega arith);
+}
+  where
+    new : r ≡ sumTo (n + 1) (pick (away a) (u t))
+    new = rw add-one (omega (arith, left .sums n (omega arith)))
+
+-- all of them
+pub left-ended : (u : ℕ → ℕ → ℕ) (t : ℕ) (a : NumSet) (n units : ℕ) (table : List ℕ) → Left u t a n table → n ≤ units → units ≤ n
+    → Left u t a units table
+left-ended u t a n units table h l m = let e : n ≡ units = omega arith in subst (λ (k : ℕ). Left u t a k table) e h
+
+-- ---- as a bound
+
+-- prices that do not pay, by the test that the code makes
+pub gain-none : (best left sum value : ℕ) → sum ≡ best + left → leb sum value ≡ true → best + left ≤ value
+gain-none best left sum value e h = omega (arith, leb-true sum value h)
+
+-- a place of the table of prices left
+left-small : (xs left : List ℕ) (t k n : ℕ) (a : NumSet) → Prices xs → n ≤ 16 → Left (priceIn xs) t a n left → k ≤ n → getD left k 0 ≤ 67108864
+left-small xs left t k n a h few l m =
+    omega (arith, l .sums k m, not-out-small xs t a k h, mul-le-mul-right 4194304 (le-trans m few))
+
+-- the last place has all prices
+pub left-all : (u : ℕ → ℕ → ℕ) (t n : ℕ) (a : NumSet) (left : List ℕ) → Left u t a n left → getD left n 0 ≡ notOut u t a n
+left-all u t n a left l = l .sums n (le-refl n)
+
+-- of 16 units at most
+pub left-all-small : (ws xs left : List ℕ) (l : Layout) (t : ℕ) (a : NumSet) → Filed ws l → Prices xs → Left (priceIn xs) t a (l .units) left
+    → getD left (l .units) 0 ≤ 67108864
+left-all-small ws xs left l t a f h s = left-small xs left t (l .units) (l .units) a h (f .units-most) s (le-refl (l .units))
+
+-- it bounds the prices of the units not out
+pub spare-start : (xs left : List ℕ) (t n out own : ℕ) → Prices xs → n ≤ 16 → Left (priceIn xs) t (has out) n left → own ≡ out
+    → Spare (priceIn xs) t (has own) n left
+spare-start xs left t n out own h few l same = rw same (record {
+  enough = λ k m. omega (arith, l .sums k m);
+  small = λ k m. left-small xs left t k n (has out) h few l m;
+})
+
+-- a place of the table
+pub spare-small : (u : ℕ → ℕ → ℕ) (t k n : ℕ) (a : NumSet) (left : List ℕ) → Spare u t a n left → k ≤ n → getD left k 0 ≤ 67108864
+spare-small u t k n a left h l = h .small k l
+
+-- the place after unit i's
+pub spare-next : (u : ℕ → ℕ → ℕ) (t i n : ℕ) (a : NumSet) (left : List ℕ) → Spare u t a n left → i < n → getD left (i + 1) 0 ≤ 67108864
+spare-next u t i n a left h l = h .small (i + 1) (omega arith)

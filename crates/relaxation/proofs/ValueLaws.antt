@@ -1,0 +1,122 @@
+-- What a week is worth, and a memory of such values: emptied, found, written, and left alone by others.
+-- Assumes nothing.
+use Prim.Native.Nat.{ℕ, _+_, _*_, _≤_, _<_}
+use mathlib.Core.Path.{_≡_, sym, _∙_, subst}
+use mathlib.Core.List.{List}
+use native.Mathlib.Omega.{arith}
+use lib.ListN.{getD, replicate}
+use Rattle.sums.specs.NumSet.{NumSet, has}
+use Rattle.model.specs.declared.Layout.{Layout}
+use Rattle.model.specs.Problem.{Problem}
+use Rattle.model.specs.Words.{problemOf}
+use Rattle.model.specs.Commitment.{Pick, nothing, picked, cheapestRun, NO_RUN, pickCost, leastCost}
+use Rattle.instance.specs.Filed.{Filed}
+use Rattle.instance.proofs.FiledLaws.{units-are}
+use Rattle.commitment.proofs.ScoreLaws.{run-small}
+use Rattle.memo.specs.declared.Kept.{Kept}
+use Rattle.memo.specs.declared.Kept.the-variants.{Word}
+use Rattle.memo.specs.Memo.{Entry, Present, Looked, Wrote, OTHERS, Others, keyOf, Right}
+use Rattle.memo.proofs.EntryLaws.{empty-key, right-empty, right-kept, wrote-all}
+use Rattle.blame.specs.Priced.{WeekLeast}
+use Rattle.blame.proofs.PlacedLaws.{least-lacks}
+use Rattle.blame.proofs.BoundLaws.{week-plain}
+use Rattle.relaxation.specs.Relaxed.{Value, valueKey, Values, Recalls}
+use Rattle.relaxation.specs.Choosing.{Floor}
+use Rattle.relaxation.proofs.FloorLaws.{floor-week}
+
+-- ---- a value
+
+-- the cheapest run's cost is one, at any prices
+pub value-plain : (ws : List ℕ) (l : Layout) (u : ℕ → ℕ → ℕ) (t out v : ℕ) → Filed ws l → t < l .weeks → v ≡ leastCost (problemOf ws) t (has out)
+    → v ≤ 268435456 → Value (problemOf ws) u t (has out) v
+value-plain ws l u t out v f h e m =
+    let p = problemOf ws in
+    record {
+      least = rw e (week-plain p u t (has out));
+      small = m;
+      none = λ n. least-lacks p t (has out) (λ r s. omega (arith, run-small ws l t f h r)) (omega arith);
+      serves = λ n. omega arith;
+    }
+
+-- a cheapest run of an accepted file costs no more than 4,000,000, where there is one
+run-cheap : (ws : List ℕ) (l : Layout) (t : ℕ) (a : NumSet) → Filed ws l → t < l .weeks → leastCost (problemOf ws) t a < NO_RUN
+    → leastCost (problemOf ws) t a ≤ 4000000
+unfolding leastCost pickCost
+run-cheap ws l t a f h = by (cheapestRun (problemOf ws) t a)
+  where
+    by : (x : Pick) → pickCost (problemOf ws) t x < NO_RUN → pickCost (problemOf ws) t x ≤ 4000000
+    by nothing b = absurd (omega arith)
+    by (picked r) b = run-small ws l t f h r
+
+-- a lower bound for all sets is one too, where there is a run; prices cannot bring it to what stands for none
+pub value-chosen : (ws : List ℕ) (l : Layout) (u : ℕ → ℕ → ℕ) (t out own cost rest value v : ℕ) → Filed ws l → t < l .weeks
+    → cost ≡ leastCost (problemOf ws) t (has out) → cost < 268435456 → rest ≤ 67108864 → own ≡ out → value ≡ cost + rest → v ≤ value
+    → Floor (problemOf ws) u t (has own) (l .units) v → Value (problemOf ws) u t (has out) v
+value-chosen ws l u t out own cost rest value v f h e less few same sum low floor =
+    record {
+      least = subst (λ (o : ℕ). WeekLeast p u t (has o) v) same (floor-week p u t (has own) (l .units) v (omega (arith, units-are ws l f)) floor);
+      small = omega (arith, cheap);
+      none = λ n. absurd (omega (arith, cheap));
+      serves = λ n. omega arith;
+    }
+  where
+    p : Problem
+    p = problemOf ws
+
+    cheap : leastCost p t (has out) ≤ 4000000
+    cheap = run-cheap ws l t (has out) f h (omega arith)
+
+-- ---- a memory of values
+
+-- their keys are another's
+key-above : (t out : ℕ) → OTHERS < valueKey t out
+unfolding valueKey keyOf
+key-above t out = omega arith
+
+-- and tell the week and the set
+keys-same : (t out t′ out′ : ℕ) → out < 65536 → out′ < 65536 → valueKey t out ≡ valueKey t′ out′ → (t ≡ t′) × (out ≡ out′)
+unfolding valueKey keyOf
+keys-same t out t′ out′ b b′ e = (omega arith, omega arith)
+
+-- an emptied memory recalls whatever the prices
+pub recalls-empty : (p : Problem) (u : ℕ → ℕ → ℕ) (memo : List ℕ) (n : ℕ) → memo ≡ replicate n 0 → Recalls p u memo
+recalls-empty p u memo n is = record {
+  costs = right-empty p memo n is;
+  values = record { holds = λ e t out b z. absurd (omega (arith, z, empty-key memo n e is, key-above t out)) };
+}
+
+-- entries under another's key that are left alone keep their values
+pub values-others : (p : Problem) (u : ℕ → ℕ → ℕ) (memo memo′ : List ℕ) → Values p u memo → Others memo memo′ → Values p u memo′
+values-others p u memo memo′ v same = record { holds = λ e t out b z. by e t out b z (same .same e (omega (arith, z, key-above t out))) }
+  where
+    by : (e t out : ℕ) → out < 65536 → getD memo′ (e * 2) 0 ≡ valueKey t out → Entry memo e (getD memo′ (e * 2) 0) (getD memo′ (e * 2 + 1) 0)
+        → Value p u t (has out) (getD memo′ (e * 2 + 1) 0)
+    by e t out b z old = subst (Value p u t (has out)) (old .kept) (v .holds e t out b (old .under ∙ z))
+
+-- so a memory recalls after a change that is right and leaves them alone
+pub recalls-others : (p : Problem) (u : ℕ → ℕ → ℕ) (memo memo′ : List ℕ) → Recalls p u memo → Right p memo′ → Others memo memo′ → Recalls p u memo′
+recalls-others p u memo memo′ r right same = record { costs = right; values = values-others p u memo memo′ (r .values) same }
+
+-- what is found under a value's key
+pub value-found : (p : Problem) (u : ℕ → ℕ → ℕ) (memo : List ℕ) (t out key v : ℕ) (found : Kept) → Recalls p u memo → out < 65536
+    → key ≡ valueKey t out → Looked memo key found → found ≡ Word v → Value p u t (has out) v
+value-found p u memo t out key v found r b k looked is =
+    let h : Present memo key v = subst (Looked memo key) is looked in
+    subst (Value p u t (has out)) (h .entry .kept) (r .values .holds (h .at) t out b (h .entry .under ∙ k))
+
+-- what an entry says of a value
+abbrev Says : Problem → (ℕ → ℕ → ℕ) → ℕ → ℕ → Type 0
+Says p u k w = (t out : ℕ) → out < 65536 → k ≡ valueKey t out → Value p u t (has out) w
+
+-- a value written under its key; keys tell the week and the set
+pub recalls-put : (p : Problem) (u : ℕ → ℕ → ℕ) (memo memo′ new : List ℕ) (t out key v : ℕ) → Recalls p u memo → Right p memo′ → Others memo memo′
+    → out < 65536 → key ≡ valueKey t out → Wrote memo′ new key v → Value p u t (has out) v → Recalls p u new
+recalls-put p u memo memo′ new t out key v r right same b k wrote value = record {
+  costs = right-kept p memo′ new key v right wrote (omega (arith, key-above t out));
+  values = record { holds = wrote-all (Says p u) memo′ new key v wrote (values-others p u memo memo′ (r .values) same .holds) it };
+}
+  where
+    it : Says p u key v
+    it t′ out′ b′ e =
+        let q = keys-same t out t′ out′ b b′ (sym k ∙ e) in
+        subst (λ (x : ℕ). Value p u x (has out′) v) (q .0) (subst (λ (x : ℕ). Value p u t (has x) v) (q .1) value)

@@ -1,0 +1,75 @@
+-- The choice of further units out in a week, depth first: what is known of a set of units from which it goes on, and how far it has gone.
+-- Assumes nothing.
+use Prim.Native.Nat.{ℕ, _+_, _≤_, _<_}
+use mathlib.Core.Path.{_≡_}
+use mathlib.Core.Bool.{true, _||_}
+use mathlib.Core.List.{List}
+use mathlib.Core.Logic.{_⊎_}
+use lib.Dec.{eqb}
+use lib.ListN.{getD}
+use Rattle.sums.specs.Sum.{sumTo}
+use Rattle.sums.specs.NumSet.{NumSet, pick, away, has}
+use Rattle.model.specs.Problem.{Problem}
+use Rattle.model.specs.Rules.{headcount}
+use Rattle.model.specs.Commitment.{Serves, runCost, leastCost}
+use Rattle.model.specs.Plan.{Compatible}
+use Rattle.relaxation.specs.declared.Node.{Node}
+
+-- what the prices in week t of the units below k come to, of those not in a
+unfoldable pub notOut : (ℕ → ℕ → ℕ) → ℕ → NumSet → ℕ → ℕ
+notOut u t a k = sumTo k (pick (away a) (u t))
+
+-- x has the units of o, and from unit k on no other
+pub record Reach (p : Problem) (o : NumSet) (k : ℕ) (x : NumSet) : Type 0 where
+  pub all : (i : ℕ) → i < p .units → o i ≡ true → x i ≡ true
+  pub same : (i : ℕ) → k ≤ i → i < p .units → x i ≡ true → o i ≡ true
+
+-- v is at most what week t is worth with any set out that has the units of o, and from unit k on no other
+pub record Floor (p : Problem) (u : ℕ → ℕ → ℕ) (t : ℕ) (o : NumSet) (k v : ℕ) : Type 0 where
+  pub below : (x : NumSet) (r : ℕ) → Compatible p x → Reach p o k x → Serves p t x r → v ≤ runCost p t r + notOut u t x (p .units)
+
+-- no compatible set with the units of o has unit i
+pub record Barred (p : Problem) (o : NumSet) (i : ℕ) : Type 0 where
+  pub never : (x : NumSet) → Compatible p x → ((j : ℕ) → j < p .units → o j ≡ true → x j ≡ true) → x i ≡ true → ⊥
+
+-- unit i need not be tried with those of o: it is one of them, or its price is 0, or it may not be out with them
+abbrev pub Needless : Problem → (ℕ → ℕ → ℕ) → ℕ → NumSet → ℕ → Type 0
+Needless p u t o i = (o i ≡ true) ⊎ ((u t i ≡ 0) ⊎ Barred p o i)
+
+-- units that need not be tried, those of o below n among them
+pub record Shut (p : Problem) (u : ℕ → ℕ → ℕ) (t : ℕ) (o : NumSet) (n shut : ℕ) : Type 0 where
+  pub needless : (i : ℕ) → i < p .units → has shut i ≡ true → Needless p u t o i
+  pub own : (i : ℕ) → i < n → o i ≡ true → has shut i ≡ true
+
+-- the crews allow at most so many more units out
+pub record Roomed (p : Problem) (o : NumSet) (room : ℕ) : Type 0 where
+  pub most : p .crews ≤ headcount p o + room
+
+-- what is known of a set of units out
+pub record Known (p : Problem) (u : ℕ → ℕ → ℕ) (t : ℕ) (y : Node) : Type 0 where
+  pub rest : y .rest .0 ≡ notOut u t (has (y .out)) (p .units)
+  pub value : y .value .0 ≡ leastCost p t (has (y .out)) + y .rest .0
+  pub small : y .value .0 ≤ 536870912
+  pub room : Roomed p (has (y .out)) (y .room)
+  pub shut : Shut p u t (has (y .out)) (p .units) (y .shut)
+
+-- at place k, up to n, what the prices of the units below k come to, of those not in a
+pub record Left (u : ℕ → ℕ → ℕ) (t : ℕ) (a : NumSet) (n : ℕ) (left : List ℕ) : Type 0 where
+  pub sums : (k : ℕ) → k ≤ n → getD left k 0 ≡ notOut u t a k
+
+-- at place k, up to n, no less than that
+pub record Spare (u : ℕ → ℕ → ℕ) (t : ℕ) (a : NumSet) (n : ℕ) (left : List ℕ) : Type 0 where
+  pub enough : (k : ℕ) → k ≤ n → notOut u t a k ≤ getD left k 0
+  pub small : (k : ℕ) → k ≤ n → getD left k 0 ≤ 67108864
+
+-- unit i, as the highest of further units, need not be tried against the best so far: it is shut, or the prices up to it cannot pay
+pub record Over (left : List ℕ) (i : ℕ) (y : Node) (low : ℕ) : Type 0 where
+  pub why : (has (y .shut) i ≡ true) ⊎ (low + getD left (i + 1) 0 ≤ y .value .0)
+
+-- z is y with unit i out as well, which has this price and these partners; the cheapest run then costs this much
+pub record Child (price clash i : ℕ) (y : Node) (out cost : ℕ) (z : Node) : Type 0 where
+  pub out-is : z .out ≡ out
+  pub shut : (k : ℕ) → has (z .shut) k ≡ ((has (y .shut) k || eqb k i) || has clash k)
+  pub room : z .room + 1 ≡ y .room
+  pub rest : z .rest .0 + price ≡ y .rest .0
+  pub value : z .value .0 ≡ cost + z .rest .0
