@@ -4,6 +4,8 @@ pub mod ArmLaws
 pub mod StageLaws
 -- the reader's steps
 pub mod StepLaws
+-- what a reader owns
+pub mod ReaderLaws
 -- bytes to words
 pub mod BytesLaws
 -- the sizing figure

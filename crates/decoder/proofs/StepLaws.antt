@@ -2,21 +2,22 @@
 -- Assumes nothing.
 use Prim.Native.Nat.{ℕ, suc, _+_, _-_, _*_, _%_, _^_, _≤_, _<_, min}
 use mathlib.Core.Path.{_≡_, refl, sym, _∙_, ap}
-use mathlib.Core.Bool.{Bool, true, false}
+use mathlib.Core.Bool.{Bool, true, false, not, _&&_}
 use mathlib.Core.List.{List}
 use mathlib.Core.Logic.{⊎-elim}
 use native.Mathlib.Omega.{arith}
-use lib.Dec.{eqb}
+use lib.Dec.{ltb, eqb}
 use lib.ListN.{length, getD}
-use borrow.Author.Tests.{eq-eqb, ne-eqb, eqb-true}
+use borrow.Author.Tests.{lt-ltb, le-ltb, ltb-true, eq-eqb, ne-eqb, eqb-true, eqb-false}
 use Rattle.sums.specs.Logic.{if}
+use Rattle.sums.proofs.LogicLaws.{true-false, and-left, and-right, not-at}
 use Rattle.model.specs.declared.Layout.{Layout}
 use Rattle.model.specs.Words.{kindOf, valueOf, kindAt, valueAt, Laid, layoutOf}
 use Rattle.model.specs.Verdict.{accepted, refused}
 use Rattle.model.specs.Reading.{dueAt, pairFault, valueFault, faultFor, faultAt, readFrom, readOf}
 use Rattle.model.proofs.ReadingLaws.{layout-laid, due-pair, kind-fits}
 use Rattle.decoder.proofs.StageLaws.{clear-due}
-use Rattle.decoder.specs.Stages.{Onward, asPair, Passes, Clear, Passed}
+use Rattle.decoder.specs.Stages.{Onward, asPair, Passes, openAt, Clear, Passed}
 
 -- ---- the word at a place
 
@@ -39,28 +40,79 @@ pub onward-here : (ws : List ℕ) (l : Layout) (q k most next : ℕ) → k ≡ k
 unfolding kindAt
 onward-here ws l q k most next e on = rw (← e) on
 
+-- ---- whether the reader goes on
+
+module _ (ws : List ℕ) (q : ℕ) where
+  -- a word stands at an open place
+  pub open-inside : openAt ws q ≡ true → q < length ws
+  unfolding openAt
+  open-inside e = ltb-true q (length ws) (and-left (ltb q (length ws)) _ e)
+
+  -- and passes
+  open-passes : openAt ws q ≡ true → Passes ws q
+  unfolding openAt
+  open-passes e =
+      let h = and-right (ltb q (length ws)) (eqb (faultAt ws q) 0 && not (eqb (kindAt ws q) 15)) e in
+      record {
+        faultless = eqb-true (faultAt ws q) 0 (and-left (eqb (faultAt ws q) 0) (not (eqb (kindAt ws q) 15)) h);
+        inner = eqb-false (kindAt ws q) 15 (not-at _ (and-right (eqb (faultAt ws q) 0) (not (eqb (kindAt ws q) 15)) h));
+      }
+
+  -- no word is left
+  pub open-ended : length ws ≤ q → false ≡ openAt ws q
+  unfolding openAt
+  open-ended h = simp (le-ltb q (length ws) h)
+
+  module _ (h : q < length ws) (f : ℕ) (is : f ≡ faultAt ws q) where
+    -- the word has a fault
+    pub open-fault : (f ≡ 0 → ⊥) → false ≡ openAt ws q
+    unfolding openAt
+    open-fault some = simp (lt-ltb q (length ws) h, ← is, ne-eqb f 0 some)
+
+    module _ (none : f ≡ 0) (k : ℕ) (kind : k ≡ kindOf (getD ws q 0)) where
+      -- it is the end word
+      pub open-end : k ≡ 15 → false ≡ openAt ws q
+      unfolding openAt kindAt
+      open-end e = simp (lt-ltb q (length ws) h, ← is, eq-eqb f 0 none, ← kind, eq-eqb k 15 e)
+
+      -- it is neither
+      pub open-passed : (k ≡ 15 → ⊥) → true ≡ openAt ws q
+      unfolding openAt kindAt
+      open-passed e = simp (lt-ltb q (length ws) h, ← is, eq-eqb f 0 none, ← kind, ne-eqb k 15 e)
+
+    -- a word without a fault at which the reader does not go on is the end word
+    shut-end : openAt ws q ≡ false → f ≡ 0 → kindAt ws q ≡ 15
+    unfolding openAt
+    shut-end e none = eqb-true (kindAt ws q) 15 (go (eqb (kindAt ws q) 15) (sym (simp (lt-ltb q (length ws) h, ← is, eq-eqb f 0 none)) ∙ e))
+      where
+        go : (b : Bool) → not b ≡ false → b ≡ true
+        go true _ = refl
+        go false z = true-false z
+
 -- ---- the words of a stage pass
 
 -- a word without a fault that is not the end word has the kind due
-kind-is-due : (ws : List ℕ) (q : ℕ) → faultAt ws q ≡ 0 → (kindAt ws q ≡ 15 → ⊥) → dueAt (layoutOf ws) q ≡ kindAt ws q
-kind-is-due ws q clear inner =
+kind-is-due : (ws : List ℕ) (q : ℕ) → Passes ws q → dueAt (layoutOf ws) q ≡ kindAt ws q
+kind-is-due ws q w =
     ⊎-elim
     (λ (e : kindAt ws q ≡ dueAt (layoutOf ws) q). sym e)
-    (λ (e : (dueAt (layoutOf ws) q ≡ 10) × (kindAt ws q ≡ 15)). absurd (inner (e .1)))
-    (kind-fits ws q clear)
+    (λ (e : (dueAt (layoutOf ws) q ≡ 10) × (kindAt ws q ≡ 15)). absurd (w .inner (e .1)))
+    (kind-fits ws q (w .faultless))
 
--- what the stage of the word at place q says of the words after it
-pub stage-clear : (ws : List ℕ) (l : Layout) (q k most next f : ℕ) → l ≡ layoutOf ws → k ≡ kindOf (getD ws q 0) → f ≡ faultAt ws q → f ≡ 0
-    → (k ≡ 15 → ⊥) → Onward l q (kindAt ws q) most next → Clear ws q most next
-unfolding faultAt kindAt
-stage-clear ws l q k most next f laid kind is none inner on = record {
-  free = λ p a b e v.
-      let due : dueAt l q ≡ kindAt ws q = rw laid (kind-is-due ws q (sym is ∙ none) (λ h. inner (kind ∙ h))) in
-      record {
-        faultless = rw (e, sym laid) (on .free due p (valueAt ws (p - 1)) (valueAt ws p) a b v);
-        inner = λ h. inner (kind ∙ (sym e ∙ h));
-      };
-}
+-- what the stage of an open word at place q says of the words after it
+pub stage-clear : (ws : List ℕ) (l : Layout) (q most next : ℕ) → l ≡ layoutOf ws → openAt ws q ≡ true → Onward l q (kindAt ws q) most next
+    → Clear ws q most next
+unfolding faultAt
+stage-clear ws l q most next laid goes on =
+    let w = open-passes ws q goes in
+    record {
+      free = λ p a b e v.
+          let due : dueAt l q ≡ kindAt ws q = rw laid (kind-is-due ws q w) in
+          record {
+            faultless = rw (e, sym laid) (on .free due p (valueAt ws (p - 1)) (valueAt ws p) a b v);
+            inner = λ h. w .inner (sym e ∙ h);
+          };
+    }
 
 -- a word at a distance up to most from the kind's word of value 0 has that kind and a value up to most
 module _ (k y most low d : ℕ) (s : most < 268435456) (at : low ≡ k * 268435456) (top : low ≤ 4026531840) (is : (d + low) % 2 ^ 32 ≡ y) (near : d ≤ most) where
@@ -165,38 +217,38 @@ pub prev-next : (ws : List ℕ) (p v : ℕ) → v ≡ valueOf (getD ws p 0) → 
 unfolding valueAt
 prev-next ws p v e = let o : p + 1 - 1 ≡ p = omega arith in rw o e
 
--- ---- the verdict from the beginning on
+-- ---- the verdict of the walk
 
 -- before the first word
-pub read-start : (ws : List ℕ) → readOf ws ≡ readFrom ws 0 (length ws - 0)
+pub walk-start : (ws : List ℕ) → readOf ws ≡ readFrom ws 0 (length ws - 0)
 unfolding readOf
-read-start ws = let e : length ws ≡ length ws - 0 = omega arith in ap (readFrom ws 0) e
+walk-start ws = let e : length ws ≡ length ws - 0 = omega arith in ap (readFrom ws 0) e
 
-module _ (ws : List ℕ) (q : ℕ) (inv : readOf ws ≡ readFrom ws q (length ws - q)) where
+module _ (ws : List ℕ) (q : ℕ) where
+  module _ (goes : openAt ws q ≡ true) (r : ℕ) (on : Passed ws q r) where
+    -- the reader goes on to r
+    pub walk-next : readFrom ws q (length ws - q) ≡ readFrom ws r (length ws - r)
+    walk-next = step-next ws q (open-inside ws q goes) (open-passes ws q goes) ∙ on .same
+
+    -- and fewer words are left
+    pub walk-less : length ws - r < length ws - q
+    walk-less = let a = on .forth in let b = on .inside in omega arith
+
   -- no word is left
-  pub read-out : length ws ≤ q → refused 1 q ≡ readOf ws
+  pub ended-out : length ws ≤ q → refused 1 q ≡ readFrom ws q (length ws - q)
   unfolding readFrom
-  read-out h = let e : length ws - q ≡ 0 = omega arith in sym (inv ∙ ap (readFrom ws q) e)
+  ended-out h = let e : length ws - q ≡ 0 = omega arith in sym (ap (readFrom ws q) e)
 
   module _ (h : q < length ws) (f : ℕ) (is : f ≡ faultAt ws q) where
     -- the word at q is refused
-    pub read-fault : (f ≡ 0 → ⊥) → refused f q ≡ readOf ws
-    read-fault some = sym (inv ∙ step-fault ws q h f is some)
+    pub ended-fault : (f ≡ 0 → ⊥) → refused f q ≡ readFrom ws q (length ws - q)
+    ended-fault some = sym (step-fault ws q h f is some)
 
-    module _ (none : f ≡ 0) (k : ℕ) (kind : k ≡ kindOf (getD ws q 0)) where
-      at-kind : k ≡ kindAt ws q
-      unfolding kindAt
-      at-kind = kind
-
+    module _ (shut : openAt ws q ≡ false) (none : f ≡ 0) where
       -- the end word is the last
-      pub read-end : k ≡ 15 → q + 1 ≡ length ws → accepted ≡ readOf ws
-      read-end last e = sym (inv ∙ step-end ws q h (sym is ∙ none) (sym at-kind ∙ last) e)
+      pub ended-last : q + 1 ≡ length ws → accepted ≡ readFrom ws q (length ws - q)
+      ended-last e = sym (step-end ws q h (sym is ∙ none) (shut-end ws q h f is shut none) e)
 
       -- words stand after the end word
-      pub read-more : k ≡ 15 → (q + 1 ≡ length ws → ⊥) → refused 7 (q + 1) ≡ readOf ws
-      read-more last e = sym (inv ∙ step-more ws q h (sym is ∙ none) (sym at-kind ∙ last) e)
-
-      -- the reader goes on to r
-      pub read-next : (r : ℕ) → (k ≡ 15 → ⊥) → Passed ws q r → readOf ws ≡ readFrom ws r (length ws - r)
-      read-next r inner on =
-          inv ∙ (step-next ws q h record { faultless = sym is ∙ none; inner = λ e. inner (at-kind ∙ e) } ∙ on .same)
+      pub ended-more : (q + 1 ≡ length ws → ⊥) → refused 7 (q + 1) ≡ readFrom ws q (length ws - q)
+      ended-more e = sym (step-more ws q h (sym is ∙ none) (shut-end ws q h f is shut none) e)

@@ -2,9 +2,10 @@
 -- Assumes nothing.
 use Prim.Native.Nat.{ℕ, _+_, _-_, _≤_, _<_}
 use mathlib.Core.Path.{_≡_}
+use mathlib.Core.Bool.{Bool, _&&_, not}
 use mathlib.Core.List.{List}
 use lib.ListN.{length}
-use lib.Dec.{eqb}
+use lib.Dec.{ltb, eqb}
 use Rattle.sums.specs.Logic.{if}
 use Rattle.model.specs.declared.Layout.{Layout}
 use Rattle.model.specs.Words.{kindOf, valueOf, kindAt, valueAt}
@@ -19,10 +20,14 @@ pub record Onward (l : Layout) (q k most next : ℕ) : Type 0 where
 unfoldable pub asPair : Layout → ℕ → ℕ → ℕ → ℕ
 asPair l p prev word = if (eqb (kindOf word) 10) (pairFault l p prev (valueOf word)) 1
 
--- the word at place p has no fault and is not the end word: the reader goes on behind it
+-- the word at place p has no fault and is not the end word
 pub record Passes (ws : List ℕ) (p : ℕ) : Type 0 where
   pub faultless : faultAt ws p ≡ 0
   pub inner : kindAt ws p ≡ 15 → ⊥
+
+-- a word stands at place q and passes: the reader goes on behind it
+unfoldable pub openAt : List ℕ → ℕ → Bool
+openAt ws q = ltb q (length ws) && (eqb (faultAt ws q) 0 && not (eqb (kindAt ws q) 15))
 
 -- after place q, up to the place next, every word of the same kind as the one there and of a value up to most passes
 pub record Clear (ws : List ℕ) (q most next : ℕ) : Type 0 where

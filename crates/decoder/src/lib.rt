@@ -2,14 +2,15 @@
 use model::Layout;
 ghost use Prim.Native.Nat.{_+_, _-_, _*_, _<_, _≤_, _^_, min};
 ghost use mathlib.Core.Path.{_≡_};
+ghost use mathlib.Core.Bool.{true, false};
 ghost use lib.ListN.{length};
 ghost use Rattle.sums.specs.Sum.{sumTo};
 ghost use Rattle.model.specs.Words.{kindOf, kindAt, valueAt, Laid, layoutOf};
 ghost use Rattle.model.specs.Bytes.{wordFrom, loadOf, loadedInto};
-ghost use Rattle.model.specs.Reading.{dueAt, within, windowFault, pairFault, endFault, valueFault, faultFor, faultAt, readOf};
+ghost use Rattle.model.specs.Reading.{dueAt, within, windowFault, pairFault, endFault, valueFault, faultFor, faultAt, readFrom, readOf};
 ghost use Rattle.model.specs.Prefix.{powerUp};
 ghost use Rattle.model.specs.Sizing.{sizingOf};
-ghost use Rattle.decoder.specs.Stages.{Onward, asPair, Clear, Passed};
+ghost use Rattle.decoder.specs.Stages.{Onward, asPair, openAt, Clear, Passed};
 ghost use Rattle.decoder.specs.Answers.{verdictOf, replyOf};
 
 // A plan file is accepted, or refused under a number at a place.
@@ -24,7 +25,7 @@ pub enum Reply {
     Denied(u32, usize),
 }
 
-// ---- the reader of a plan file
+// ---- the stages of a plan file
 
 // What a word's kind and place settle: the refusal that its value deserves, 0 for none, and the place up to which words of the same kind
 // follow that may hold any value from 0 to `most`. There the next stage begins.
@@ -293,28 +294,112 @@ fn pass_stage(words: &[u32], l: Layout, q: usize, s: Stage) -> usize
     pass(words, q, s)
 }
 
-// The verdict on any words as a plan file, in one pass.
+// ---- the reader of a plan file
+
+// The refusal that the word at place q deserves, 0 for none.
+fn fault_at(words: &[u32], q: usize) -> u32
+    requires { ⌜ q < length (now words) ⌝ }
+    ensures { λ r. ⌜ r ≡ faultAt (now (words .entry)) q ⌝ }
+{
+    let l = instance::layout_of(words);
+    let s = stage_at(words, l, q);
+    s.fault
+}
+
+// Whether a reader goes on from place q: a word stands there, without a fault, and it is not the end word.
+fn open_at(words: &[u32], q: usize) -> bool
+    ensures { λ r. ⌜ r ≡ openAt (now (words .entry)) q ⌝ }
+{
+    if words.len() <= q {
+        return false;
+    }
+    if fault_at(words, q) != 0 {
+        return false;
+    }
+    if instance::kind_of(words[q]) == 15 {
+        return false;
+    }
+    true
+}
+
+// The place to which a reader goes on from place q: behind the word there and those that follow in its stage without a fault.
+fn next_at(words: &[u32], q: usize) -> usize
+    requires { ⌜ openAt (now words) q ≡ true ⌝ }
+    ensures { λ r. ⌜ Passed (now (words .entry)) q r ⌝ }
+{
+    let l = instance::layout_of(words);
+    let s = stage_at(words, l, q);
+    pass_stage(words, l, q, s)
+}
+
+// The verdict of a reader that has come to place q and does not go on.
+fn verdict_at(words: &[u32], q: usize) -> Verdict
+    requires { ⌜ openAt (now words) q ≡ false ⌝ }
+    ensures { λ r. ⌜ verdictOf r ≡ readFrom (now (words .entry)) q (length (now (words .entry)) - q) ⌝ }
+{
+    if words.len() <= q {
+        return Verdict::Refused(1, q);
+    }
+    let fault = fault_at(words, q);
+    if fault != 0 {
+        return Verdict::Refused(fault, q);
+    }
+    if q + 1 == words.len() {
+        return Verdict::Accepted;
+    }
+    Verdict::Refused(7, q + 1)
+}
+
+// A reader: the lent words, and the place at which it stands. Its methods only take it apart; the functions above, on slice and number, do
+// the work.
+struct Reader<'a> {
+    words: &'a [u32],
+    at: usize,
+}
+
+impl<'a> Reader<'a> {
+    // A reader at the first word.
+    fn new(words: &'a [u32]) -> Reader<'a>
+        ensures { λ r. ⌜ (r .words ≡ words .entry) × (r .at ≡ 0) ⌝ }
+    {
+        Reader { words, at: 0 }
+    }
+
+    // Whether it goes on, by what stands at its place.
+    fn goes_on(self) -> bool
+        ensures { λ b. ⌜ b ≡ openAt (now (self .entry .words)) (self .entry .at) ⌝ }
+    {
+        open_at(self.words, self.at)
+    }
+
+    // The reader behind the word at which it stood, and those that follow in its stage.
+    fn step(self) -> Reader<'a>
+        requires { ⌜ openAt (now (self .words)) (self .at) ≡ true ⌝ }
+        ensures { λ r. ⌜ (r .words ≡ self .entry .words) × Passed (now (self .entry .words)) (self .entry .at) (r .at) ⌝ }
+    {
+        Reader {
+            words: self.words,
+            at: next_at(self.words, self.at),
+        }
+    }
+
+    // The place at which it stands.
+    fn position(self) -> usize
+        ensures { λ q. ⌜ q ≡ self .entry .at ⌝ }
+    {
+        self.at
+    }
+}
+
+// The verdict on any words as a plan file: a reader walks from the first word to the end word, or to a fault.
 pub fn read(words: &[u32]) -> Verdict
     ensures { λ r. ⌜ verdictOf r ≡ readOf (now (words .entry)) ⌝ }
 {
-    let l = instance::layout_of(words);
-    let mut q = 0;
-    while q < words.len() {
-        let s = stage_at(words, l, q);
-        let fault = s.fault;
-        if fault != 0 {
-            return Verdict::Refused(fault, q);
-        }
-        let k = instance::kind_of(words[q]);
-        if k == 15 {
-            if q + 1 == words.len() {
-                return Verdict::Accepted;
-            }
-            return Verdict::Refused(7, q + 1);
-        }
-        q = pass_stage(words, l, q, s);
+    let mut r = Reader::new(words);
+    while r.goes_on() {
+        r = r.step();
     }
-    Verdict::Refused(1, q)
+    verdict_at(words, r.position())
 }
 
 // ---- bytes to words
