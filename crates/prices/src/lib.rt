@@ -1,6 +1,7 @@
 // Prices for units that are not out, found from the file alone, in rounds: at the prices of a round each unit has a least start and each week a best
 // set of units out, and prices rise where units are out by their least starts alone, and fall where the weeks alone have them out. Any prices serve a
 // bound, these are advice. In the field this is the subgradient method with momentum. Weeks and units count from 0, starts from 1.
+use instance::Euro;
 use model::Layout;
 ghost use mathlib.Core.Path.{_≡_};
 ghost use Prim.Native.Nat.{_+_, _<_, _≤_};
@@ -34,7 +35,7 @@ const NONE: u64 = 1099511627776;
 
 // A unit's least cost, its prices included, and the first start that costs it.
 struct Least {
-    cost: u64,
+    cost: Euro,
     start: usize,
 }
 
@@ -65,14 +66,14 @@ fn above(a: u64, b: u64) -> u64
 }
 
 // What week t of unit i's overhaul costs, its price included.
-fn week_cost(words: &[u32], l: Layout, prices: &[u32; 832], t: usize, i: usize) -> u64
+fn week_cost(words: &[u32], l: Layout, prices: &[u32; 832], t: usize, i: usize) -> Euro
     requires { ⌜ Filed (now words) l ⌝ }
     requires { ⌜ (t < l .weeks) × (i < l .units) ⌝ }
     requires { ⌜ Prices (now prices) ⌝ }
-    ensures { λ r. ⌜ r ≤ 4444304 ⌝ }
+    ensures { λ r. ⌜ r .0 ≤ 4444304 ⌝ }
 {
-    let cost = instance::maint_cost(words, l, t, i);
-    cost.0 + amount(price_at(prices, t * 16 + i))
+    let price = Euro(amount(price_at(prices, t * 16 + i)));
+    instance::maint_cost(words, l, t, i).plus(price)
 }
 
 // What the overhaul of unit i costs from its first permitted start, its prices included.
@@ -83,25 +84,25 @@ fn first_cost(
     i: usize,
     first: usize,
     duration: usize,
-) -> u64
+) -> Euro
     requires { ⌜ Filed (now words) l ⌝ }
     requires { ⌜ (i < l .units) × (first + duration ≤ l .weeks) ⌝ }
     requires { ⌜ Prices (now prices) ⌝ }
-    ensures { λ r. ⌜ r ≤ 268435456 ⌝ }
+    ensures { λ r. ⌜ r .0 ≤ 268435456 ⌝ }
 {
-    let mut sum = 0;
+    let mut sum = Euro(0);
     for k in 0..duration {
-        sum += week_cost(words, l, prices, first + k, i);
+        sum = sum.plus(week_cost(words, l, prices, first + k, i));
     }
     sum
 }
 
 // The less of two costs, the first of equals.
-fn lesser(least: Least, cost: u64, start: usize) -> Least
-    requires { ⌜ (least .cost ≤ 1099511627776) × (least .start ≤ 52) × (start ≤ 52) ⌝ }
-    ensures { λ r. ⌜ (r .cost ≤ 1099511627776) × (r .start ≤ 52) ⌝ }
+fn lesser(least: Least, cost: Euro, start: usize) -> Least
+    requires { ⌜ (least .cost .0 ≤ 1099511627776) × (least .start ≤ 52) × (start ≤ 52) ⌝ }
+    ensures { λ r. ⌜ (r .cost .0 ≤ 1099511627776) × (r .start ≤ 52) ⌝ }
 {
-    if cost < least.cost {
+    if cost.0 < least.cost.0 {
         return Least { cost, start };
     }
     least
@@ -112,14 +113,14 @@ fn least_start(words: &[u32], l: Layout, prices: &[u32; 832], i: usize) -> Least
     requires { ⌜ Filed (now words) l ⌝ }
     requires { ⌜ i < l .units ⌝ }
     requires { ⌜ Prices (now prices) ⌝ }
-    ensures { λ r. ⌜ (r .cost ≤ 1099511627776) × (r .start ≤ 52) ⌝ }
+    ensures { λ r. ⌜ (r .cost .0 ≤ 1099511627776) × (r .start ≤ 52) ⌝ }
 {
     let starts = overhaul::starts_of(words, l, i);
     let start = starts.first;
     let last = starts.last;
     if last < start {
         return Least {
-            cost: NONE,
+            cost: Euro(NONE),
             start: 0,
         };
     }
@@ -127,25 +128,26 @@ fn least_start(words: &[u32], l: Layout, prices: &[u32; 832], i: usize) -> Least
     let mut cost = first_cost(words, l, prices, i, start - 1, duration);
     let mut least = Least { cost, start };
     for s in start..last {
-        let less = above(cost, week_cost(words, l, prices, s - 1, i));
-        cost = less + week_cost(words, l, prices, s - 1 + duration, i);
+        let gone = week_cost(words, l, prices, s - 1, i);
+        let come = week_cost(words, l, prices, s - 1 + duration, i);
+        cost = Euro(above(cost.0, gone.0)).plus(come);
         least = lesser(least, cost, s + 1);
     }
     least
 }
 
 // What all units cost at least; their least starts are written.
-fn overhauls(words: &[u32], l: Layout, prices: &[u32; 832], wants: &mut [u32; 68]) -> u64
+fn overhauls(words: &[u32], l: Layout, prices: &[u32; 832], wants: &mut [u32; 68]) -> Euro
     requires { ⌜ Filed (now words) l ⌝ }
     requires { ⌜ Prices (now prices) ⌝ }
-    ensures { λ r. ⌜ r ≤ 17592186044416 ⌝ }
+    ensures { λ r. ⌜ r .0 ≤ 17592186044416 ⌝ }
 {
     let units = l.units;
-    let mut sum = 0;
+    let mut sum = Euro(0);
     for i in 0..units {
         let least = least_start(words, l, prices, i);
         wants[52 + i] = least.start as u32;
-        sum += least.cost;
+        sum = sum.plus(least.cost);
     }
     sum
 }
@@ -158,37 +160,37 @@ fn weeks_worth(
     clashes: &[u32; 16],
     wants: &mut [u32; 68],
     memo: &mut [u32],
-) -> u64
+) -> Euro
     requires { ⌜ Filed (now words) l ⌝ }
     requires { ⌜ Prices (now prices) × Clashes (problemOf (now words)) (l .units) (now clashes) ⌝ }
     requires { ⌜ Right (problemOf (now words)) (now memo) ⌝ }
-    ensures answer { λ r. ⌜ r ≤ 1099511627776 ⌝ }
+    ensures answer { λ r. ⌜ r .0 ≤ 1099511627776 ⌝ }
     ensures right { λ r. ⌜ Right (problemOf (now (words .entry))) (now (memo .exit)) × Others (now (memo .entry)) (now (memo .exit)) ⌝ }
 {
     let weeks = l.weeks;
-    let mut sum = 0;
+    let mut sum = Euro(0);
     for t in 0..weeks {
         let c = relaxation::best_choice(words, l, prices, clashes, t, 0, memo);
         // 2^28 stands for no run.
         if 268435456 <= c.value.0 {
-            return NONE;
+            return Euro(NONE);
         }
         wants[t] = c.out;
-        sum += c.value.0;
+        sum = sum.plus(c.value);
     }
     sum
 }
 
 // All prices.
-fn total(l: Layout, prices: &[u32; 832]) -> u64
+fn total(l: Layout, prices: &[u32; 832]) -> Euro
     requires { ⌜ l .weeks ≤ 52 ⌝ }
     requires { ⌜ Prices (now prices) ⌝ }
-    ensures { λ r. ⌜ r ≤ 3489660928 ⌝ }
+    ensures { λ r. ⌜ r .0 ≤ 3489660928 ⌝ }
 {
     let places = l.weeks * 16;
-    let mut sum = 0;
+    let mut sum = Euro(0);
     for k in 0..places {
-        sum += amount(price_at(prices, k));
+        sum = sum.plus(Euro(amount(price_at(prices, k))));
     }
     sum
 }
@@ -201,18 +203,19 @@ fn relaxed(
     clashes: &[u32; 16],
     wants: &mut [u32; 68],
     memo: &mut [u32],
-) -> u64
+) -> Euro
     requires { ⌜ Filed (now words) l ⌝ }
     requires { ⌜ Prices (now prices) × Clashes (problemOf (now words)) (l .units) (now clashes) ⌝ }
     requires { ⌜ Right (problemOf (now words)) (now memo) ⌝ }
     ensures right { λ r. ⌜ Right (problemOf (now (words .entry))) (now (memo .exit)) × Others (now (memo .entry)) (now (memo .exit)) ⌝ }
 {
     let units = overhauls(words, l, prices, wants);
-    if NONE <= units {
-        return NONE;
+    if NONE <= units.0 {
+        return Euro(NONE);
     }
     let weeks = weeks_worth(words, l, prices, clashes, wants, memo);
-    above(units + weeks, total(l, prices))
+    let sum = units.plus(weeks);
+    Euro(above(sum.0, total(l, prices).0))
 }
 
 // ---- pushes
@@ -321,6 +324,7 @@ fn size(l: Layout, push: &[u32; 832]) -> u64
 // ---- steps
 
 // How far the rounds have come: the best bound so far and that of the prices at hand, the reach of steps, and the rounds since the last gain.
+// Bounds are plain numbers from here on: no sum is made of them, but lengths of steps.
 struct Progress {
     best: u64,
     at: u64,
@@ -415,7 +419,7 @@ fn round(
     }
     let step = step_of(s, size);
     move_prices(l, step, push, prices);
-    relaxed(words, l, prices, clashes, wants, memo)
+    relaxed(words, l, prices, clashes, wants, memo).0
 }
 
 // After a round: a gain is kept; too many rounds without one go back to the best prices and make steps shorter.
@@ -532,7 +536,7 @@ pub fn rounds(words: &[u32], l: Layout, clashes: &[u32; 16], memo: &mut [u32]) -
 {
     let none: [u32; 832] = [0; 832];
     let mut wants: [u32; 68] = [0; 68];
-    let root = relaxed(words, l, &none, clashes, &mut wants, memo);
+    let root = relaxed(words, l, &none, clashes, &mut wants, memo).0;
     if NONE <= root {
         return none;
     }

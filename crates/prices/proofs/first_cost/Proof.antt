@@ -6,7 +6,7 @@ use Rattle.prices.proofs.first_cost.Statement.{statement}
 use Rattle.prices.proofs.first_cost.Tie as tie
 
 abbrev Inv-loop : tie.InvT-loop
-Inv-loop words l prices i first duration sum₀ k₀ sum k = (k ≤ duration) × (first + duration ≤ l .weeks) × (l .weeks ≤ 52) × (sum ≤ 4444304 * k)
+Inv-loop words l prices i first duration sum₀ k₀ sum k = (k ≤ duration) × (first + duration ≤ l .weeks) × (l .weeks ≤ 52) × (sum .0 ≤ 4444304 * k)
 
 abbrev μ-loop : tie.MeasureT-loop
 μ-loop words l prices i first duration sum₀ k₀ sum k = duration - k
@@ -20,8 +20,8 @@ add-week-cost c = search needs
 week-cost-requires : tie.Need-week-cost-requires Inv-loop μ-loop
 week-cost-requires c κs = (search needs, ((search needs, search needs), search needs))
 
-add-sum : tie.Need-add-sum Inv-loop μ-loop
-add-sum c = search needs
+plus-requires : tie.Need-plus-requires Inv-loop μ-loop
+plus-requires c κs = search needs
 
 add-k : tie.Need-add-k Inv-loop μ-loop
 add-k c = search needs
@@ -44,7 +44,7 @@ first-cost-spec =
     loop-holds
     add-week-cost
     week-cost-requires
-    add-sum
+    plus-requires
     add-k
     loop-less
     loop-again

@@ -8,8 +8,8 @@ use Rattle.prices.proofs.least_start.Tie as tie
 
 abbrev Inv-loop : tie.InvT-loop
 Inv-loop words l prices i start last duration cost₀ least₀ s₀ cost least s =
-    (last + duration ≤ l .weeks + 1) × (1 ≤ s) × (l .weeks ≤ 52) × (cost ≤ 268435456 + 4444304 * s)
-    × (least .cost ≤ 1099511627776) × (least .start ≤ 52)
+    (last + duration ≤ l .weeks + 1) × (1 ≤ s) × (l .weeks ≤ 52) × (cost .0 ≤ 268435456 + 4444304 * s)
+    × (least .cost .0 ≤ 1099511627776) × (least .start ≤ 52)
 
 abbrev μ-loop : tie.MeasureT-loop
 μ-loop words l prices i start last duration cost₀ least₀ s₀ cost least s = last - s
@@ -38,9 +38,6 @@ sub-week-cost c = search needs
 week-cost-requires : tie.Need-week-cost-requires Inv-loop μ-loop
 week-cost-requires c κs = (search needs, ((search needs, search needs), search needs))
 
-above-requires : tie.Need-above-requires Inv-loop μ-loop
-above-requires c κs = search needs
-
 sub-week-cost-2 : tie.Need-sub-week-cost-2 Inv-loop μ-loop
 sub-week-cost-2 c = search needs
 
@@ -50,8 +47,11 @@ add-week-cost c = search needs
 week-cost-requires-2 : tie.Need-week-cost-requires-2 Inv-loop μ-loop
 week-cost-requires-2 c κs = (search needs, ((search needs, search needs), search needs))
 
-add-cost : tie.Need-add-cost Inv-loop μ-loop
-add-cost c = search needs
+above-requires : tie.Need-above-requires Inv-loop μ-loop
+above-requires c κs = search needs
+
+plus-requires : tie.Need-plus-requires Inv-loop μ-loop
+plus-requires c κs = search needs
 
 add-lesser : tie.Need-add-lesser Inv-loop μ-loop
 add-lesser c = search needs
@@ -85,11 +85,11 @@ least-start-spec =
     loop-holds
     sub-week-cost
     week-cost-requires
-    above-requires
     sub-week-cost-2
     add-week-cost
     week-cost-requires-2
-    add-cost
+    above-requires
+    plus-requires
     add-lesser
     lesser-requires
     add-s

@@ -6,7 +6,7 @@ use Rattle.prices.proofs.overhauls.Statement.{statement}
 use Rattle.prices.proofs.overhauls.Tie as tie
 
 abbrev Inv-loop : tie.InvT-loop
-Inv-loop words l prices wants₀ units sum₀ i₀ wants sum i = (i ≤ units) × (units ≤ 16) × (sum ≤ 1099511627776 * i)
+Inv-loop words l prices wants₀ units sum₀ i₀ wants sum i = (i ≤ units) × (units ≤ 16) × (sum .0 ≤ 1099511627776 * i)
 
 abbrev μ-loop : tie.MeasureT-loop
 μ-loop words l prices wants₀ units sum₀ i₀ wants sum i = units - i
@@ -29,8 +29,8 @@ mul-wants c = search needs
 element-write-wants : tie.Need-element-write-wants Inv-loop μ-loop
 element-write-wants c = search needs
 
-add-sum : tie.Need-add-sum Inv-loop μ-loop
-add-sum c = search needs
+plus-requires : tie.Need-plus-requires Inv-loop μ-loop
+plus-requires c κs = search needs
 
 add-i : tie.Need-add-i Inv-loop μ-loop
 add-i c = search needs
@@ -56,7 +56,7 @@ overhauls-spec =
     add-wants
     mul-wants
     element-write-wants
-    add-sum
+    plus-requires
     add-i
     loop-less
     loop-again

@@ -6,7 +6,7 @@ use Rattle.prices.proofs.total.Statement.{statement}
 use Rattle.prices.proofs.total.Tie as tie
 
 abbrev Inv-loop : tie.InvT-loop
-Inv-loop prices places sum₀ k₀ sum k = (k ≤ places) × (places ≤ 832) × (sum ≤ 4194304 * k)
+Inv-loop prices places sum₀ k₀ sum k = (k ≤ places) × (places ≤ 832) × (sum .0 ≤ 4194304 * k)
 
 abbrev μ-loop : tie.MeasureT-loop
 μ-loop prices places sum₀ k₀ sum k = places - k
@@ -23,8 +23,8 @@ price-at-requires c κs = search needs
 amount-requires : tie.Need-amount-requires Inv-loop μ-loop
 amount-requires c κs = search needs
 
-add-sum : tie.Need-add-sum Inv-loop μ-loop
-add-sum c = search needs
+plus-requires : tie.Need-plus-requires Inv-loop μ-loop
+plus-requires c κs = search needs
 
 add-k : tie.Need-add-k Inv-loop μ-loop
 add-k c = search needs
@@ -48,7 +48,7 @@ total-spec =
     loop-holds
     price-at-requires
     amount-requires
-    add-sum
+    plus-requires
     add-k
     loop-less
     loop-again

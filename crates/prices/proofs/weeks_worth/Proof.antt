@@ -12,7 +12,7 @@ use Rattle.prices.proofs.weeks_worth.Tie as tie
 
 abbrev Inv-loop : tie.InvT-loop
 Inv-loop words l prices clashes wants₀ memo₀ weeks sum₀ t₀ wants memo sum t =
-    (t ≤ weeks) × (weeks ≤ 52) × (sum ≤ 268435456 * t) × Right (problemOf words) memo × Others memo₀ memo × (length memo ≡ length memo₀)
+    (t ≤ weeks) × (weeks ≤ 52) × (sum .0 ≤ 268435456 * t) × Right (problemOf words) memo × Others memo₀ memo × (length memo ≡ length memo₀)
 
 abbrev μ-loop : tie.MeasureT-loop
 μ-loop words l prices clashes wants₀ memo₀ weeks sum₀ t₀ wants memo sum t = weeks - t
@@ -35,8 +35,8 @@ mul-wants c = search needs
 element-write-wants : tie.Need-element-write-wants Inv-loop μ-loop
 element-write-wants c = search needs
 
-add-sum : tie.Need-add-sum Inv-loop μ-loop
-add-sum c = search needs
+plus-requires : tie.Need-plus-requires Inv-loop μ-loop
+plus-requires c κs = search needs
 
 add-t : tie.Need-add-t Inv-loop μ-loop
 add-t c = search needs
@@ -65,7 +65,7 @@ weeks-worth-spec =
     returns
     mul-wants
     element-write-wants
-    add-sum
+    plus-requires
     add-t
     loop-less
     loop-again
