@@ -161,16 +161,16 @@ module _ {M : Type 1} (𝓤 : URA M) (H : Heap 𝓤) (A : Atoms 𝓤) (mem : Mem
     twice = shr-slice-copy 𝓤 H A W (named 0) κ u32 .twice s (v ∷ [])
 
     -- what `new` is passed, as `read` is
-    abbrev Passed : SProp 𝓤
-    Passed = ⋆ 𝓤 H A (token ∷ ‵ (owns (ShrSlice (named 0) κ u32 ∷ []) (s, tt) (v ∷ [], tt)) ∷ [])
+    abbrev Lent : SProp 𝓤
+    Lent = ⋆ 𝓤 H A (token ∷ ‵ (owns (ShrSlice (named 0) κ u32 ∷ []) (s, tt) (v ∷ [], tt)) ∷ [])
 
     abbrev to-new : New .Ghost
     to-new = (((κ, tt), (q, tt), tt, (s, tt), (v ∷ [], tt)), tt)
 
-    asked-new : ent 𝓤 Passed (New .pre to-new)
-    asked-new = qed W (raw Passed ∷ []) ∵ frame ! $ done !
+    asked-new : ent 𝓤 Lent (New .pre to-new)
+    asked-new = qed W (raw Lent ∷ []) ∵ frame ! $ done !
 
-    asks-new : ent 𝓤 Passed (sep 𝓤 (New .pre to-new) (sem 𝓤 H A Own))
+    asks-new : ent 𝓤 Lent (sep 𝓤 (New .pre to-new) (sem 𝓤 H A Own))
     asks-new =
         qed W (token ∷ ‵ (owns (ShrSlice (named 0) κ u32 ∷ []) (s, tt) (v ∷ [], tt)) ∷ []) ∵
         move ! (1 ∷ []) $ fsplit ! $ use1 W (‵ Own ⊛ ‵ Own) twice $ split ! $ move ! (0 ∷ 2 ∷ []) $ fjoin ! $ move ! (2 ∷ 0 ∷ []) $
@@ -187,11 +187,11 @@ module _ {M : Type 1} (𝓤 : URA M) (H : Heap 𝓤) (A : Atoms 𝓤) (mem : Mem
       abbrev to-verdict-at : VerdictAt .Ghost
       to-verdict-at = (((κ, tt), (q, tt), tt, (s, (n, tt)), (v ∷ [], (vint w64 n ∷ [], tt))), tt)
 
-      abbrev PassedAt : SProp 𝓤
-      PassedAt = ⋆ 𝓤 H A (token ∷ ‵ (owns (ShrSlice (named 0) κ u32 ∷ usize ∷ []) (s, (n, tt)) (v ∷ [], (vint w64 n ∷ [], tt))) ∷ [])
+      abbrev LentAt : SProp 𝓤
+      LentAt = ⋆ 𝓤 H A (token ∷ ‵ (owns (ShrSlice (named 0) κ u32 ∷ usize ∷ []) (s, (n, tt)) (v ∷ [], (vint w64 n ∷ [], tt))) ∷ [])
 
-      asked-verdict-at : openAt (now s) n ≡ false → ent 𝓤 PassedAt (VerdictAt .pre to-verdict-at)
-      asked-verdict-at shut = qed W (raw PassedAt ∷ []) ∵ says ! shut $ by ! (id⊢ 𝓤 PassedAt)
+      asked-verdict-at : openAt (now s) n ≡ false → ent 𝓤 LentAt (VerdictAt .pre to-verdict-at)
+      asked-verdict-at shut = qed W (raw LentAt ∷ []) ∵ says ! shut $ by ! (id⊢ 𝓤 LentAt)
 
       asks-verdict-at : n < 2 ^ 64 → openAt (now s) n ≡ false
           → ent 𝓤 (⋆ 𝓤 H A (token ∷ ‵ Own ∷ [])) (sep 𝓤 (VerdictAt .pre to-verdict-at) (sem 𝓤 H A Own))
@@ -338,9 +338,9 @@ module _ {M : Type 1} (𝓤 : URA M) (H : Heap 𝓤) (A : Atoms 𝓤) (mem : Mem
               (λ off. jumps ! $ exec ! C Λ En rest (atRet En Post) $ leaves _ b is off)))))
 
       walk : Triple 𝓤 (C #new) New → Is (ShrSlice (named 0) κ u32) s (v ∷ [])
-          → ent 𝓤 Passed (WpFn 𝓤 H C Λ code.function (v ∷ []) Post)
+          → ent 𝓤 Lent (WpFn 𝓤 H C Λ code.function (v ∷ []) Post)
       walk known-new p =
-          qed W (raw Passed ∷ []) ∵ enter ! C Λ code.function (v ∷ []) _ $
+          qed W (raw Lent ∷ []) ∵ enter ! C Λ code.function (v ∷ []) _ $
           alloc1 ! (λ l₀. alloc1 ! (λ l₁. alloc1 ! (λ l₂. alloc1 ! (λ l₃. alloc1 ! (λ l₄. alloc1 ! (λ l₅. alloc1 ! (λ l₆. alloc1 ! (λ l₇. alloc0 ! $
           params1 ! $ pass1 ! (init ! 12 refl (shr-slice-lawful 𝓤 H A W (named 0) κ u32 .typed s (v ∷ []) p .0)) $ pass0 ! $
           move ! (16 ∷ []) $ use1 W (raw (New .pre to-new) ⊛ ‵ Own) asks-new $ split ! $
