@@ -4,3 +4,5 @@ pub mod CostLaws
 pub mod JudgingLaws
 -- the judge's program
 pub mod ProgramLaws
+-- the line printed for an input
+pub mod TextLaws

@@ -12,6 +12,7 @@ ghost use Rattle.model.specs.Verdict.{accepted, firstFault};
 ghost use Rattle.model.specs.Reading.{readOf};
 ghost use Rattle.model.specs.Refusal.{cellFault, gridVerdict};
 ghost use Rattle.model.specs.Judgement.{judgement, judgeOf, judgeBytes, judgeInput};
+ghost use Rattle.model.specs.Lines.{judgementText, Written};
 ghost use Rattle.instance.specs.Filed.{Filed};
 ghost use Rattle.instance.specs.Tables.{maintsOf, runningsOf, tableFor, rowOf};
 ghost use Rattle.decoder.specs.Answers.{verdictOf};
@@ -171,4 +172,17 @@ pub fn judge_input(bytes: &[u8]) -> Judgement
     }
     let end = input::file_end(bytes);
     judge_bytes(&bytes[..end], &bytes[end..])
+}
+
+// The line that is printed for a program's input: how many of the lent bytes it has; any beyond are kept. 50 bytes hold the longest.
+pub fn judge_text(bytes: &[u8], text: &mut [u8]) -> usize
+    requires { ⌜ 50 ≤ length (now text) ⌝ }
+    ensures { λ r. ⌜ Written (judgementText (judgeInput (now (bytes .entry)))) (now (text .entry)) (now (text .exit)) r ⌝ }
+{
+    let judgement = judge_input(bytes);
+    match judgement {
+        Judgement::Sound(cost) => report::sound(text, cost),
+        Judgement::Breaks(formula) => report::rule(text, formula),
+        Judgement::Rejected(number, place) => report::refusal(text, number, place),
+    }
 }

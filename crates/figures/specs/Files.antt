@@ -43,3 +43,37 @@ abbrev pub fileGap : List ℕ
 fileGap =
     1 ∶ 3 ∷ 2 ∶ 1 ∷ 3 ∶ 1 ∷ 4 ∶ 0 ∷ 4 ∶ 0 ∷ 4 ∶ 0 ∷ 5 ∶ 9 ∷ 6 ∶ 67 ∷ 7 ∶ 2
     ∷ 8 ∶ 1 ∷ 8 ∶ 1 ∷ 8 ∶ 1 ∷ 9 ∶ 1 ∷ 9 ∶ 1 ∷ 9 ∶ 1 ∷ 15 ∶ 15 ∷ []
+
+-- ---- files of our own
+
+-- two weeks with demands 4 and 2, three units, two crews: three schedules of the least cost
+abbrev pub fileTies : List ℕ
+fileTies =
+    1 ∶ 2 ∷ 2 ∶ 3 ∷ 3 ∶ 2 ∷ 4 ∶ 4 ∷ 4 ∶ 2
+    ∷ 5 ∶ 2 ∷ 6 ∶ 66 ∷ 7 ∶ 1 ∷ 5 ∶ 5 ∷ 6 ∶ 66 ∷ 7 ∶ 1 ∷ 5 ∶ 4 ∷ 6 ∶ 66 ∷ 7 ∶ 1
+    ∷ 8 ∶ 3 ∷ 8 ∶ 2 ∷ 8 ∶ 0 ∷ 8 ∶ 4 ∷ 8 ∶ 4 ∷ 8 ∶ 4
+    ∷ 9 ∶ 6 ∷ 9 ∶ 5 ∷ 9 ∶ 1 ∷ 9 ∶ 3 ∷ 9 ∶ 3 ∷ 9 ∶ 1
+    ∷ 15 ∶ 26 ∷ []
+
+-- one week, units 1 and 2 together do and cost as much as unit 3
+abbrev pub filePair : List ℕ
+filePair =
+    1 ∶ 1 ∷ 2 ∶ 3 ∷ 3 ∶ 1 ∷ 4 ∶ 4 ∷ 5 ∶ 2 ∷ 6 ∶ 65 ∷ 7 ∶ 1 ∷ 5 ∶ 2 ∷ 6 ∶ 65 ∷ 7 ∶ 1 ∷ 5 ∶ 4 ∷ 6 ∶ 65 ∷ 7 ∶ 1
+    ∷ 8 ∶ 0 ∷ 8 ∶ 0 ∷ 8 ∶ 0 ∷ 9 ∶ 1 ∷ 9 ∶ 1 ∷ 9 ∶ 2 ∷ 15 ∶ 19 ∷ []
+
+-- one week, one unit, nothing costs anything
+abbrev pub fileFree : List ℕ
+fileFree = 1 ∶ 1 ∷ 2 ∶ 1 ∷ 3 ∶ 1 ∷ 4 ∶ 0 ∷ 5 ∶ 9 ∷ 6 ∶ 65 ∷ 7 ∶ 1 ∷ 8 ∶ 0 ∷ 9 ∶ 0 ∷ 15 ∶ 9 ∷ []
+
+-- four weeks, two units with windows 1 to 4 and 2 to 3 and durations 3 and 1
+abbrev pub fileWindows : List ℕ
+fileWindows =
+    1 ∶ 4 ∷ 2 ∶ 2 ∷ 3 ∶ 1 ∷ 4 ∶ 0 ∷ 4 ∶ 0 ∷ 4 ∶ 0 ∷ 4 ∶ 0 ∷ 5 ∶ 9 ∷ 6 ∶ 68 ∷ 7 ∶ 3 ∷ 5 ∶ 9 ∷ 6 ∶ 131 ∷ 7 ∶ 1
+    ∷ 8 ∶ 1 ∷ 8 ∶ 1 ∷ 8 ∶ 1 ∷ 8 ∶ 1 ∷ 8 ∶ 1 ∷ 8 ∶ 1 ∷ 8 ∶ 1 ∷ 8 ∶ 1 ∷ 9 ∶ 1 ∷ 9 ∶ 1 ∷ 9 ∶ 1 ∷ 9 ∶ 1 ∷ 9 ∶ 1 ∷ 9 ∶ 1 ∷ 9 ∶ 1 ∷ 9 ∶ 1
+    ∷ 15 ∶ 29 ∷ []
+
+-- two weeks, three units, three crews, units 2 and 3 excluded from being out together, nothing costs anything
+abbrev pub fileApart : List ℕ
+fileApart =
+    1 ∶ 2 ∷ 2 ∶ 3 ∷ 3 ∶ 3 ∷ 4 ∶ 0 ∷ 4 ∶ 0 ∷ 5 ∶ 9 ∷ 6 ∶ 66 ∷ 7 ∶ 1 ∷ 5 ∶ 9 ∷ 6 ∶ 66 ∷ 7 ∶ 1 ∷ 5 ∶ 9 ∷ 6 ∶ 66 ∷ 7 ∶ 1
+    ∷ 8 ∶ 0 ∷ 8 ∶ 0 ∷ 8 ∶ 0 ∷ 8 ∶ 0 ∷ 8 ∶ 0 ∷ 8 ∶ 0 ∷ 9 ∶ 0 ∷ 9 ∶ 0 ∷ 9 ∶ 0 ∷ 9 ∶ 0 ∷ 9 ∶ 0 ∷ 9 ∶ 0 ∷ 10 ∶ 67 ∷ 15 ∶ 27 ∷ []

@@ -1,4 +1,18 @@
+-- the files of the rows
 pub mod Files
+-- rows: a file and a claim
 pub mod Rows
+-- the tests that are computed for them
 pub mod Tests
+-- what holds for every problem
+pub mod General
+-- ties, runs of asks, the worked run
+pub mod Ties
+pub mod Runs
 pub mod Worked
+-- what is due from the definitions for given inputs
+pub mod Cases
+pub mod Refusals
+pub mod Encodings
+-- the common theorem's statement
+pub mod Figures

@@ -1,25 +1,25 @@
--- The worked figures marked P as rows: what each kind of row claims of all schedules, starts, runs or places of its file.
+-- Rows: a file and what is claimed of it, of all its schedules, starts, runs, places or runs of asks. The worked figures marked P as rows.
 -- Assumes nothing.
-use Prim.Native.Nat.{ℕ, _^_, _≤_, _<_}
+use Prim.Native.Nat.{ℕ, _^_, _≤_}
 use mathlib.Core.Path.{_≡_}
-use mathlib.Core.Bool.{Bool, true, false, _||_}
-use mathlib.Core.List.{List, [], _∷_}
+use mathlib.Core.Bool.{Bool, false, _||_}
+use mathlib.Core.List.{List, [], _∷_, _++_}
+use lib.ListN.{length}
 use lib.Dec.{eqb}
 use Rattle.sums.specs.Range.{countTo}
-use Rattle.model.specs.Problem.{Problem}
-use Rattle.model.specs.Grid.{States, isMaint}
-use Rattle.model.specs.Rules.{keeps1, keeps2, keeps3, keeps4, keeps5, broken}
+use Rattle.sums.specs.NumSet.{has}
 use Rattle.model.specs.Judgement.{breaks, judgeOf}
 use Rattle.model.specs.Domain.{permitted}
 use Rattle.model.specs.Schedule.{Schedule, Sound}
-use Rattle.model.specs.Commitment.{serves}
+use Rattle.model.specs.Commitment.{serves, Pick, IsPick}
 use Rattle.model.specs.Prefix.{ValidPrefix, prefixes, rank, spaceBound}
 use Rattle.model.specs.Words.{problemOf}
 use Rattle.model.specs.Verdict.{accepted}
 use Rattle.model.specs.Reading.{readOf}
 use Rattle.model.specs.Best.{Everywhere, NoneAllowed}
-use Rattle.model.specs.Nogood.{Nogood, Legal, Holds}
-use Rattle.model.specs.Answer.{Found}
+use Rattle.model.specs.Nogood.{Nogood, Legal, Holds, IsNogood}
+use Rattle.model.specs.Answer.{Answer, Found, Correct}
+use Rattle.model.specs.Asks.{Ran}
 use Rattle.figures.specs.Files.{fileA, fileFour, fileOne, fileLong, fileTwo, fileGap}
 
 -- a claim about a file's problem
@@ -41,11 +41,30 @@ pub data Claim : Type 0 where
   -- the number of places and the sizing figure; a place's rank
   places : ℕ → ℕ → Claim
   ranked : List ℕ → ℕ → Claim
+  -- of a week and the number of a set of units out: this is its cheapest run, or there is none; it is not
+  week : ℕ → ℕ → Pick → Claim
+  notWeek : ℕ → ℕ → Pick → Claim
+  -- the answer is right for a ceiling and a budget; it is wrong
+  right : ℕ → ℕ → Answer → Claim
+  wrong : ℕ → ℕ → Answer → Claim
+  -- a conflict that may stand in a table; one that may not
+  noted : Nogood → Claim
+  unfit : Nogood → Claim
+  -- these asks, with what each is told and leaves, may end with these answer words and this table
+  ran : List ℕ → List Answer → List (List Nogood) → List ℕ → List ℕ → Claim
+  -- these asks may not end with these answer words, whatever the table: they tell what is right for the other asks alone
+  wrongAnswers : List ℕ → List Answer → List ℕ → List ℕ → Claim
+  -- these asks, told what is right, may not end with this table of these conflicts
+  wrongTable : List ℕ → List Answer → List Nogood → List ℕ → List ℕ → Claim
 
 -- a file, word by word, and what is claimed of its problem
 pub record Row : Type 0 where
   pub file : List ℕ
   pub claim : Claim
+
+-- the same, shorter
+abbrev pub on : List ℕ → Claim → Row
+on file claim = record { file = file; claim = claim }
 
 -- v is among the numbers
 unfoldable pub member : ℕ → List ℕ → Bool
@@ -55,6 +74,21 @@ member v (x ∷ xs) = eqb v x || member v xs
 -- nobody is out
 unfoldable pub nobody : ℕ → Bool
 nobody i = false
+
+-- ---- runs of asks
+
+-- a run ends with these answers, behind them the lent words beyond, and this table, whatever the lent words held
+abbrev pub Meets : (file asks answers table : List ℕ) → Type 0
+Meets file asks answers table = (old kept table₀ scratch₀ scratch : List ℕ)
+    → length old ≡ length answers → length table₀ ≡ length table → 2 ^ problemOf file .units ≤ length scratch₀
+    → Ran accepted file asks (old ++ kept) table₀ scratch₀ (answers ++ kept) table scratch
+
+-- no run ends with these answers and this table
+abbrev pub Refuses : (file asks answers table : List ℕ) → Type 0
+Refuses file asks answers table = (answers₀ table₀ scratch₀ scratch : List ℕ)
+    → Ran accepted file asks answers₀ table₀ scratch₀ answers table scratch → ⊥
+
+-- ---- rows
 
 -- what each kind of claim says
 abbrev pub Claimed : List ℕ → Claim → Type 0
@@ -68,6 +102,15 @@ Claimed f (starts i ss) = (s : ℕ) → permitted (problemOf f) i s ≡ member s
 Claimed f (rule grid n) = judgeOf f grid ≡ breaks n
 Claimed f (places n figure) = (prefixes (problemOf f) ≡ n) × (spaceBound (problemOf f) ≡ figure)
 Claimed f (ranked ss n) = ValidPrefix (problemOf f) ss × (rank (problemOf f) ss ≡ n)
+Claimed f (week t out x) = IsPick (problemOf f) t (has out) x
+Claimed f (notWeek t out x) = IsPick (problemOf f) t (has out) x → ⊥
+Claimed f (right c b a) = Correct (problemOf f) c b a
+Claimed f (wrong c b a) = Correct (problemOf f) c b a → ⊥
+Claimed f (noted g) = IsNogood (problemOf f) g
+Claimed f (unfit g) = IsNogood (problemOf f) g → ⊥
+Claimed f (ran asks told left answers table) = Meets f asks answers table
+Claimed f (wrongAnswers asks told others answers) = (table : List ℕ) → Refuses f asks answers table
+Claimed f (wrongTable asks told gs answers table) = Refuses f asks answers table
 
 -- every row's file is accepted, and its claim holds
 abbrev pub All : List Row → Type 0
@@ -106,20 +149,3 @@ rows =
     ∷ record { file = fileA; claim = places 12 12 }
     ∷ record { file = fileA; claim = ranked (2 ∷ 1 ∷ []) 5 }
     ∷ []
-
--- ---- P9 and P10 for every problem and grid
-
--- a unit with MAINT in weeks 1 and 3 and not in week 2, (1) to (3) kept: rule 4, whatever its duration and the other weeks
-abbrev pub Gapped : Type 0
-Gapped = (p : Problem) (x : States) (i : ℕ) → i < p .units → 3 ≤ p .weeks
-    → isMaint x 0 i ≡ true → isMaint x 1 i ≡ false → isMaint x 2 i ≡ true
-    → keeps1 p x ≡ true → keeps2 p x ≡ true → keeps3 p x ≡ true → broken p x ≡ 4
-
--- a unit without MAINT, (1) to (5) kept: rule 6
-abbrev pub Idle : Type 0
-Idle = (p : Problem) (x : States) (i : ℕ) → i < p .units → ((t : ℕ) → t < p .weeks → isMaint x t i ≡ false)
-    → keeps1 p x ≡ true → keeps2 p x ≡ true → keeps3 p x ≡ true → keeps4 p x ≡ true → keeps5 p x ≡ true → broken p x ≡ 6
-
--- the common theorem's statement
-abbrev pub Figures : Type 0
-Figures = All rows × Gapped × Idle

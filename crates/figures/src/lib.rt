@@ -1,1 +1,2 @@
-// The worked figures of document 01, proved of the definitions of crate model: specs/Rows has the rows, proofs/Figures the theorem.
+// The worked figures of document 01, and rows beside them that guard the definitions of crate model, proved of these: specs/Rows has the kinds of
+// rows and the figures marked P; specs/General, Ties, Runs, Worked, Refusals and Encodings have the others; proofs/Figures has the theorem.

@@ -12,7 +12,7 @@ use Rattle.model.specs.Verdict.{accepted, refused, andThen}
 use Rattle.model.specs.Bytes.{wordsTo, loadOf, loadedInto, fileEnd}
 use Rattle.model.specs.Refusal.{runVerdict}
 use Rattle.model.specs.Asks.{askCount, Outcome, Ran}
-use Rattle.model.specs.Program.{inputWords, inputFile, inputAsks, inputVerdict, Planned, denied, planned, plannedBy, RanInput}
+use Rattle.model.specs.Program.{inputWords, inputFile, inputAsks, Planned, denied, planned, plannedBy}
 use Rattle.decoder.specs.declared.Verdict.{Verdict}
 use Rattle.decoder.specs.declared.Verdict.the-variants.{Accepted, Refused}
 use Rattle.decoder.specs.declared.Reply.{Reply}
@@ -23,6 +23,7 @@ use Rattle.input.proofs.LoadedLaws.{load-refused, load-accepted, load-front}
 use Rattle.asks.proofs.VerdictLaws.{run-admitted}
 use Rattle.intake.specs.declared.Planned.the-variants.{Denied, Answered}
 use Rattle.intake.specs.Answers.{RanFile, Sized}
+use Rattle.intake.specs.Buffers.{inputVerdict, RanInput}
 
 -- ---- a run on a file and asks
 

@@ -2,15 +2,14 @@
 // All that the program decides is decided here.
 use decoder::Reply;
 use decoder::Verdict;
-ghost use mathlib.Core.Path.{_≡_};
 ghost use Prim.Native.Nat.{_≤_};
 ghost use lib.ListN.{length, take, drop};
-ghost use Rattle.model.specs.Program.{RanInput};
-ghost use Rattle.model.specs.Lines.{ShownInput};
+ghost use Rattle.model.specs.Lines.{PlanPrinted};
 ghost use Rattle.intake.specs.Answers.{plannedOf, RanFile, Sized};
+ghost use Rattle.intake.specs.Buffers.{RanInput, ShownInput};
 
 // The input is turned away under a number at a place; or so many asks are answered, in blocks of so many units and weeks.
-pub enum Planned {
+enum Planned {
     Denied(u32, usize),
     Answered(usize, usize, usize),
 }
@@ -59,12 +58,7 @@ fn plan_split(
 }
 
 // The run that a program's input asks for. The words have room for the longest input, so 17 comes from its length alone.
-pub fn plan_input(
-    bytes: &[u8],
-    answers: &mut [u32],
-    table: &mut [u32],
-    scratch: &mut [u32],
-) -> Planned
+fn plan_input(bytes: &[u8], answers: &mut [u32], table: &mut [u32], scratch: &mut [u32]) -> Planned
     ensures { λ r. ⌜ RanInput (plannedOf r) (now (bytes .entry))
         (now (answers .entry)) (now (table .entry)) (now (scratch .entry)) (now (answers .exit)) (now (table .exit)) (now (scratch .exit)) ⌝ }
     ensures { λ r. ⌜ Sized (length (now (answers .entry))) r ⌝ }
@@ -81,8 +75,8 @@ pub fn plan_input(
     }
 }
 
-// The text that is printed for an input: how many of the lent bytes it has; any beyond are kept. 64 KiB hold the longest.
-pub fn plan_text(
+// The text that is printed for an input, with these buffers. 64 KiB hold the longest.
+fn plan_text(
     bytes: &[u8],
     text: &mut [u8],
     answers: &mut [u32],
@@ -91,8 +85,7 @@ pub fn plan_text(
 ) -> usize
     requires { ⌜ 65536 ≤ length (now text) ⌝ }
     ensures { λ r. ⌜ ShownInput (now (bytes .entry)) (now (answers .entry)) (now (table .entry)) (now (scratch .entry))
-        (now (answers .exit)) (now (table .exit)) (now (scratch .exit)) (now (text .exit)) r ⌝ }
-    ensures { λ r. ⌜ (r ≤ length (now (text .exit))) × (drop r (now (text .exit)) ≡ drop r (now (text .entry))) ⌝ }
+        (now (answers .exit)) (now (table .exit)) (now (scratch .exit)) (now (text .entry)) (now (text .exit)) r ⌝ }
 {
     let planned = plan_input(bytes, answers, table, scratch);
     match planned {
@@ -101,4 +94,16 @@ pub fn plan_text(
             report::lines(text, &answers[..], asks, units, weeks)
         }
     }
+}
+
+// The text that the program prints for its input: how many of the lent bytes it has; any beyond are kept. Answers hold the largest blocks of 32 asks;
+// scratch serves up to 14 units.
+pub fn plan_output(bytes: &[u8], text: &mut [u8]) -> usize
+    requires { ⌜ 65536 ≤ length (now text) ⌝ }
+    ensures { λ r. ⌜ PlanPrinted (now (bytes .entry)) (now (text .entry)) (now (text .exit)) r ⌝ }
+{
+    let mut answers = [0u32; 2752];
+    let mut table = [0u32; 16384];
+    let mut scratch = [0u32; 16384];
+    plan_text(bytes, text, &mut answers, &mut table, &mut scratch)
 }

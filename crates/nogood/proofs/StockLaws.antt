@@ -1,11 +1,11 @@
 -- What a table of conflicts holds: emptied, with a nogood more, and what one of its nogoods says of a walk's starts. The laws that a search cites.
 -- Assumes nothing.
 use Prim.Native.Nat.{ℕ, zero, suc, _+_, _-_, _≤_, _<_}
-use mathlib.Core.Path.{_≡_, refl, sym, _∙_, ap, subst}
+use mathlib.Core.Path.{_≡_, refl, sym, _∙_, ap, ap₂, subst}
 use mathlib.Core.Bool.{Bool, true, false}
-use mathlib.Core.List.{List, [], _∷_, _++_, append-nil}
+use mathlib.Core.List.{List, [], _∷_, _++_, append-nil, append-assoc}
 use native.Mathlib.Omega.{arith}
-use lib.ListN.{length, drop, set, replicate, length-append, length-replicate, length-set}
+use lib.ListN.{length, take, drop, set, replicate, length-append, length-replicate, length-set}
 use lib.Seq.{take-at, drop-append-add}
 use lib.Dec.{eqb}
 use borrow.Author.Tests.{eqb-false}
@@ -22,7 +22,7 @@ use Rattle.blame.specs.Closed.{Closed, startIn}
 use Rattle.lent.specs.Splice.{spliced}
 use Rattle.nogood.specs.Noting.{choicesOf, nogoodFor, notable, notedUsed, noted, endBounds, endUsed, ended}
 use Rattle.nogood.specs.Recall.{Has, Recall}
-use Rattle.nogood.specs.Stock.{Stock}
+use Rattle.nogood.specs.Stock.{Stock, Grown, Ends, DeadEnds}
 use Rattle.lent.proofs.SpliceLaws.{splice-one, splice-length}
 use Rattle.nogood.proofs.ChoiceLaws.{choice-words-length}
 use Rattle.nogood.proofs.NotingLaws.{notable-has}
@@ -33,19 +33,54 @@ use Rattle.nogood.proofs.LookupLaws.{BoundsHold, bound-holds}
 
 -- holds nothing
 pub stock-none : (p : Problem) (n : ℕ) → Stock p [] (replicate n 0) 0
-unfolding nogoodsWords boundsAlone
+unfolding nogoodsWords
 stock-none p n =
     let e : n ≡ length (replicate {A = ℕ} n 0) - 0 = omega (arith, length-replicate {A = ℕ} n 0) in
     record {
-      nogoods = [];
       table = record { fits = omega arith; stand = ap (λ (k : ℕ). replicate k 0) e; kept-free = tt; are = tt };
       ends = refl;
-      bounds = refl;
     }
 
 -- the used words are words of the table
-pub stock-within : {p : Problem} {alone words : List ℕ} {used : ℕ} → Stock p alone words used → used ≤ length words
+pub stock-within : {p : Problem} {gs : List Nogood} {words : List ℕ} {used : ℕ} → Stock p gs words used → used ≤ length words
 stock-within s = omega (arith, s .ends, s .table .fits)
+
+-- ---- a table that grows
+
+module _ (p : Problem) (gs : List Nogood) (words : List ℕ) (used : ℕ) where
+  -- with nothing behind what it held
+  pub grown-none : (Are : List Nogood → Type 0) → Are [] → Stock p gs words used → Grown p Are gs words used
+  grown-none Are a s =
+      record { more = []; are = a; stock = subst (λ (l : List Nogood). Stock p l words used) (sym (append-nil gs)) s }
+
+  -- once and then again: what it held at first stands there still
+  pub grown-next : (xs ys words′ : List ℕ) (used′ : ℕ) → Grown p (Ends xs) gs words used
+      → ((hs : List Nogood) → Stock p hs words used → Grown p (Ends ys) hs words′ used′) → Grown p (Ends (xs ++ ys)) gs words′ used′
+  grown-next xs ys words′ used′ g next = record {
+    more = g .more ++ then .more;
+    are = bounds-alone-append (g .more) (then .more) ∙ ap₂ {C = List ℕ} _++_ (g .are) (then .are);
+    stock = subst (λ (l : List Nogood). Stock p l words′ used′) (append-assoc gs (g .more) (then .more)) (then .stock);
+  }
+    where
+      then : Grown p (Ends ys) (gs ++ g .more) words′ used′
+      then = next (gs ++ g .more) (g .stock)
+
+  -- the words that were used are as they were
+  pub grown-keeps : (Are : List Nogood → Type 0) (words′ : List ℕ) (used′ : ℕ) → Stock p gs words used → Grown p Are gs words′ used′
+      → take used words′ ≡ take used words
+  grown-keeps Are words′ used′ s g =
+      ap (take used) (g .stock .table .stand ∙ ap (λ (l : List ℕ). l ++ rest′) (nogoods-words-append gs (g .more)) ∙ append-assoc old (nogoodsWords (g .more)) rest′)
+      ∙ take-at old (nogoodsWords (g .more) ++ rest′) used (sym (s .ends))
+      ∙ sym (ap (take used) (s .table .stand) ∙ take-at old rest used (sym (s .ends)))
+    where
+      old : List ℕ
+      old = nogoodsWords gs
+
+      rest : List ℕ
+      rest = replicate (length words - length old) 0
+
+      rest′ : List ℕ
+      rest′ = replicate (length words′ - length (nogoodsWords (gs ++ g .more))) 0
 
 -- ---- a nogood more
 
@@ -80,14 +115,12 @@ dead-ends-and top q [] g d h = (λ l. omega (arith, h l), tt)
 dead-ends-and top q (f ∷ gs) g d h =
     (d .0, dead-ends-and top (q + length (nogoodWords f)) gs g (d .1) (λ l. omega (arith, h l, length-append (nogoodWords f) (nogoodsWords gs))))
 
-module _ (p : Problem) (alone words : List ℕ) (used : ℕ) (g : Nogood) (s : Stock p alone words used) where
-  -- a nogood behind the others, with its bound among those alone where it has no choices
+module _ (p : Problem) (old : List Nogood) (words : List ℕ) (used : ℕ) (g : Nogood) (s : Stock p old words used) where
+  -- a nogood behind the others
   stock-and : IsNogood p g → used + length (nogoodWords g) ≤ length words
       → (0 < length (g .choices) → used + length (nogoodWords g) ≤ length words - 32)
-      → Stock p (alone ++ aloneFirst (g .bound) (g .choices) []) (spliced used (nogoodWords g) words) (used + length (nogoodWords g))
-  unfolding boundsAlone
+      → Stock p (old ++ (g ∷ [])) (spliced used (nogoodWords g) words) (used + length (nogoodWords g))
   stock-and is room low = record {
-    nogoods = all;
     table = record {
       fits = omega (arith, ends, long);
       stand = stand;
@@ -95,12 +128,8 @@ module _ (p : Problem) (alone words : List ℕ) (used : ℕ) (g : Nogood) (s : S
       are = nogoods-and p old g (s .table .are) is;
     };
     ends = ends;
-    bounds = bounds-alone-append old (g ∷ []) ∙ ap (λ (l : List ℕ). l ++ aloneFirst (g .bound) (g .choices) []) (s .bounds);
   }
     where
-      old : List Nogood
-      old = s .nogoods
-
       all : List Nogood
       all = old ++ (g ∷ [])
 
@@ -126,18 +155,21 @@ module _ (p : Problem) (alone words : List ℕ) (used : ℕ) (g : Nogood) (s : S
 -- ---- a dead end noted
 
 -- it has choices, so no bound alone is added
-none-alone : (b : ℕ) (cs : List Choice) → 1 ≤ length cs → aloneFirst b cs [] ≡ []
-unfolding aloneFirst
-none-alone b [] l = absurd (omega arith)
-none-alone b (c ∷ cs) l = refl
+none-alone : (g : Nogood) → 1 ≤ length (g .choices) → boundsAlone (g ∷ []) ≡ []
+unfolding boundsAlone
+none-alone g l = go (g .choices) l
+  where
+    go : (cs : List Choice) → 1 ≤ length cs → aloneFirst (g .bound) cs [] ≡ []
+    go [] h = absurd (omega arith)
+    go (c ∷ cs) h = refl
 
 -- a table with a dead end that was noted, or left out
-pub stock-noted : (p : Problem) (alone words xs : List ℕ) (used k b limit : ℕ) → Stock p alone words used → k ≤ p .units → limit ≤ 268435456
+pub stock-noted : (p : Problem) (gs : List Nogood) (words xs : List ℕ) (used k b limit : ℕ) → Stock p gs words used → k ≤ p .units → limit ≤ 268435456
     → ((i : ℕ) → i < k → permitted p i (startIn xs i) ≡ true) → ((i : ℕ) → has b i ≡ true → i < k) → Closed p (has b) (startIn xs) limit
-    → Stock p alone (noted words used limit (nogoodFor (startIn xs) (has b) k limit))
+    → Grown p DeadEnds gs (noted words used limit (nogoodFor (startIn xs) (has b) k limit))
     (notedUsed (length words) used limit (nogoodFor (startIn xs) (has b) k limit))
-unfolding noted notedUsed
-stock-noted p alone words xs used k b limit s l high permits inside closed = go (notable (length words) used limit cs) refl
+unfolding noted notedUsed boundsAlone
+stock-noted p gs words xs used k b limit s l high permits inside closed = go (notable (length words) used limit cs) refl
   where
     cs : List Choice
     cs = choicesOf (startIn xs) (has b) k
@@ -146,15 +178,18 @@ stock-noted p alone words xs used k b limit s l high permits inside closed = go 
     g = nogoodFor (startIn xs) (has b) k limit
 
     go : (t : Bool) → notable (length words) used limit cs ≡ t
-        → Stock p alone (if t (spliced used (nogoodWords g) words) words) (if t (used + length (nogoodWords g)) used)
-    go false e = s
+        → Grown p DeadEnds gs (if t (spliced used (nogoodWords g) words) words) (if t (used + length (nogoodWords g)) used)
+    go false e = grown-none p gs words used DeadEnds refl s
     go true e =
         let f = notable-has (length words) used limit cs e in
         let n = nogood-length g in
-        subst (λ (a : List ℕ). Stock p a (spliced used (nogoodWords g) words) (used + length (nogoodWords g)))
-        (ap (λ (a : List ℕ). alone ++ a) (none-alone (limit - 1) cs (f .1)) ∙ append-nil alone)
-        (stock-and p alone words used g s (dead-end-nogood p (startIn xs) (has b) k limit (f .0) high l (let few : length (choicesOf (startIn xs) (has b) k) ≤ 8 = omega (arith, f .2) in few) permits inside closed)
-        (omega arith) (λ z. omega arith))
+        record {
+          more = g ∷ [];
+          are = none-alone g (f .1);
+          stock =
+              stock-and p gs words used g s (dead-end-nogood p (startIn xs) (has b) k limit (f .0) high l (let few : length (choicesOf (startIn xs) (has b) k) ≤ 8 = omega (arith, f .2) in few) permits inside closed)
+              (omega arith) (λ z. omega arith);
+        }
 
 -- how many words it may use
 pub stock-room : (lent used limit n : ℕ) (g : Nogood) → used ≤ n → lent - 32 ≤ n → notedUsed lent used limit g ≤ n
@@ -180,21 +215,26 @@ noted-length words used limit g = go (notable (length words) used limit (g .choi
 -- ---- the end of a walk noted
 
 -- a table with the end of a walk, under which no schedule costs less than the limit
-pub stock-ended : (p : Problem) (alone words : List ℕ) (used limit : ℕ) → Stock p alone words used → used < length words → limit ≤ 268435456
-    → ((s : Schedule) → Sound p s → limit ≤ cost p s) → Stock p (alone ++ endBounds limit) (ended words used limit) (endUsed used limit)
-unfolding endBounds ended endUsed nogoodWords choiceWords aloneFirst
-stock-ended p alone words used limit s l high none = go (eqb limit 0) refl
+pub stock-ended : (p : Problem) (gs : List Nogood) (words : List ℕ) (used limit : ℕ) → Stock p gs words used → used < length words → limit ≤ 268435456
+    → ((s : Schedule) → Sound p s → limit ≤ cost p s) → Grown p (Ends (endBounds limit)) gs (ended words used limit) (endUsed used limit)
+unfolding endBounds ended endUsed nogoodWords choiceWords boundsAlone aloneFirst
+stock-ended p gs words used limit s l high none = go (eqb limit 0) refl
   where
     g : Nogood
     g = record { bound = limit - 1; choices = [] }
 
     go : (t : Bool) → eqb limit 0 ≡ t
-        → Stock p (alone ++ if t [] ((limit - 1) ∷ [])) (if t words (set words used (13 ∶ (limit - 1)))) (if t used (used + 1))
-    go true e = subst (λ (a : List ℕ). Stock p a words used) (sym (append-nil alone)) s
+        → Grown p (Ends (if t [] ((limit - 1) ∷ []))) gs (if t words (set words used (13 ∶ (limit - 1)))) (if t used (used + 1))
+    go true e = grown-none p gs words used (Ends []) refl s
     go false e =
         let ne = eqb-false limit 0 e in
-        subst (λ (w : List ℕ). Stock p (alone ++ ((limit - 1) ∷ [])) w (used + 1)) (sym (splice-one used (13 ∶ (limit - 1)) words l))
-        (stock-and p alone words used g s (walk-end-nogood p limit (omega arith) high none) (omega arith) (λ z. absurd (omega arith)))
+        record {
+          more = g ∷ [];
+          are = refl;
+          stock =
+              subst (λ (w : List ℕ). Stock p (gs ++ (g ∷ [])) w (used + 1)) (sym (splice-one used (13 ∶ (limit - 1)) words l))
+              (stock-and p gs words used g s (walk-end-nogood p limit (omega arith) high none) (omega arith) (λ z. absurd (omega arith)));
+        }
 
 -- one word at most
 pub ended-room : (used limit : ℕ) → endUsed used limit ≤ used + 1
@@ -217,17 +257,14 @@ ended-length words used limit = go (eqb limit 0)
 -- ---- a nogood recalled
 
 -- the starts that meet a nogood of the table whose bound covers the limit are a dead end
-pub recall-closed : (p : Problem) (alone words xs : List ℕ) (used k limit b : ℕ) → Fair p → p .weeks < 64 → p .units ≤ 16 → k ≤ p .units
-    → Stock p alone words used → Recall words xs k limit b → Closed p (has b) (startIn xs) limit
-recall-closed p alone words xs used k limit b fair short few l s r = record {
+pub recall-closed : (p : Problem) (gs : List Nogood) (words xs : List ℕ) (used k limit b : ℕ) → Fair p → p .weeks < 64 → p .units ≤ 16 → k ≤ p .units
+    → Stock p gs words used → Recall words xs k limit b → Closed p (has b) (startIn xs) limit
+recall-closed p gs words xs used k limit b fair short few l s r = record {
   costs = λ t sound on. by t (r .match .takes (t .start) (λ q h. on q (omega (arith, r .match .within q h)) h)) sound;
 }
   where
-    stand : words ≡ nogoodsWords (s .nogoods) ++ replicate (length words - length (nogoodsWords (s .nogoods))) 0
-    stand = s .table .stand
-
     by : (t : Schedule) → Has words (r .at) (t .start) → Sound p t → limit ≤ cost p t
     by t h sound =
-        let right = subst (BoundsHold p) (sym stand)
-        (bound-holds p fair short few (s .nogoods) (length words - length (nogoodsWords (s .nogoods))) (s .table .are)) in
+        let right = subst (BoundsHold p) (sym (s .table .stand))
+        (bound-holds p fair short few gs (length words - length (nogoodsWords gs)) (s .table .are)) in
         omega (arith, right .holds (r .at) t (r .bound) h sound, r .covers)

@@ -1,15 +1,12 @@
 // Reads a plan file and asks from standard input and prints what each ask is told, a line each, or a refusal's number and place in one line. It decides
-// nothing of its own: `intake::plan_text` says what is printed.
+// nothing of its own: `intake::plan_output` says what is printed.
 use libc::STDIN_FILENO;
 use libc::STDOUT_FILENO;
 
-// Answers an input in memory of 64 KiB at most each, which serves up to 14 units.
+// Prints the text for an input.
 fn answer(bytes: &[u8]) {
     let mut text = [0u8; 65536];
-    let mut answers = [0u32; 2752];
-    let mut table = [0u32; 16384];
-    let mut scratch = [0u32; 16384];
-    let n = intake::plan_text(bytes, &mut text, &mut answers, &mut table, &mut scratch);
+    let n = intake::plan_output(bytes, &mut text);
     io::write_all(STDOUT_FILENO, &text[..n]);
 }
 

@@ -3,7 +3,7 @@
 use Prim.Native.Nat.{ℕ, _+_, _-_, _*_, _/_, _≤_, _<_}
 use mathlib.Core.Path.{_≡_, refl, sym, _∙_, ap, ap₂, subst, subst₂}
 use mathlib.Core.Bool.{Bool, _||_}
-use mathlib.Core.List.{List, [], _∷_, _++_, append-nil}
+use mathlib.Core.List.{List, [], _∷_, _++_, flatten, append-nil}
 use mathlib.Core.Logic.{⊎-elim}
 use native.Mathlib.Nat.{zero-add, eq-or-lt-of-le, add-mul, one-mul, mul-le-mul-right}
 use native.Mathlib.Numerals.{add-one}
@@ -12,7 +12,6 @@ use lib.ListN.{length, drop, replicate, length-append, length-replicate}
 use mir.Syntax.{w64}
 use mir.Val.{Fits}
 use borrow.Author.Tests.{le-ltb}
-use Rattle.sums.specs.Logic.{if}
 use Rattle.sums.specs.Range.{someTo, listTo}
 use Rattle.sums.proofs.LogicLaws.{true-false}
 use Rattle.lent.specs.Splice.{spliced}
@@ -21,12 +20,13 @@ use Rattle.model.specs.declared.Layout.{Layout}
 use Rattle.model.specs.Problem.{Problem}
 use Rattle.model.specs.Words.{problemOf}
 use Rattle.model.specs.Refusal.{blockSize}
+use Rattle.model.specs.Nogood.{Nogood}
 use Rattle.model.specs.Answer.{Answer, Correct, blockOf, blocksOf}
-use Rattle.model.specs.Asks.{askCount, ceilingAt, budgetAt, answerAt, Follows, settles, settled, concludes, concluded, Answered}
+use Rattle.model.specs.Asks.{askCount, ceilingAt, budgetAt, answerAt, Follows, settles, settled, Leaves, leftAt, Answered}
 use Rattle.model.proofs.AnswerLaws.{blocks-append}
-use Rattle.model.proofs.AskLaws.{answer-old, answer-new, settles-old, concluded-new, blocks-length}
+use Rattle.model.proofs.AskLaws.{answer-old, answer-new, settles-old, settled-old, left-old, left-new, left-append, blocks-length}
 use Rattle.instance.proofs.FiledLaws.{weeks-are, units-are}
-use Rattle.nogood.specs.Stock.{Stock}
+use Rattle.nogood.specs.Stock.{Stock, Grown}
 use Rattle.nogood.proofs.StockLaws.{stock-none}
 use Rattle.search.specs.declared.Reply.{Reply}
 use Rattle.search.specs.Ask.{answerOf}
@@ -95,39 +95,55 @@ module _ (p : Problem) (asks lent answers table : List ℕ) (m : Memory) (k : �
       (going .recalls i d)))
       j h l
 
-  stock-next : Stock p (concluded asks more (k + 1)) table′ (m′ .used)
-  unfolding more settled
-  stock-next =
-      subst₂ (λ (alone : List ℕ) (n : ℕ). Stock p alone table′ n) (sym left) (sym (kept .words)) (replied .stock (concluded asks (going .told) k)
-      (going .stock))
-    where
-      left : concluded asks (going .told ++ (a ∷ [])) (k + 1)
-          ≡ concluded asks (going .told) k ++ if (settledBy m (ceilingAt asks k)) [] (concludes (ceilingAt asks k) a)
-      left =
-          concluded-new (going .told) a asks k (sym (going .each))
-          ∙ ap (λ (b : Bool). concluded asks (going .told) k ++ if b [] (concludes (ceilingAt asks k) a)) (going .settled (ceilingAt asks k))
+  -- what the ask leaves comes behind what the others left
+  grown : Grown p (Leaves (settledBy m (ceilingAt asks k)) (ceilingAt asks k) a) (flatten (going .left)) table′ (r .state .used)
+  grown = replied .stock (flatten (going .left)) (going .stock)
+
+  all-left : List (List Nogood)
+  all-left = going .left ++ (grown .more ∷ [])
+
+  stock-next : Stock p (flatten all-left) table′ (m′ .used)
+  unfolding all-left
+  stock-next = subst₂ (λ (gs : List Nogood) (n : ℕ). Stock p gs table′ n) (sym (left-append (going .left) (grown .more))) (sym (kept .words)) (grown .stock)
+
+  settled-here : (i : ℕ) → i ≤ k → settled asks more i ≡ settled asks (going .told) i
+  unfolding more
+  settled-here i l = settled-old (going .told) a asks i (omega (arith, going .each))
+
+  leaves-next : (i : ℕ) → i < k + 1 → Leaves (settled asks more i) (ceilingAt asks i) (answerAt more i) (leftAt all-left i)
+  unfolding all-left settled
+  leaves-next =
+      one-more (λ (i : ℕ) (x : Answer). Leaves (settled asks more i) (ceilingAt asks i) x (leftAt all-left i))
+      (λ i l. subst₂ (λ (b : Bool) (gs : List Nogood). Leaves b (ceilingAt asks i) (answerAt (going .told) i) gs)
+      (sym (settled-here i (omega arith))) (sym (left-old (going .left) (grown .more) i (omega (arith, going .each-left)))) (going .leaves i l))
+      (subst₂ (λ (b : Bool) (gs : List Nogood). Leaves b (ceilingAt asks k) a gs)
+      (sym (settled-here k (omega arith) ∙ going .settled-by (ceilingAt asks k))) (sym (left-new (going .left) (grown .more) k (sym (going .each-left))))
+      (grown .are))
 
   settled-more : (d : ℕ) → someTo (k + 1) (λ j. settles (ceilingAt asks j) (answerAt more j) d) ≡ settledBy m′ d
   unfolding someTo more
   settled-more d =
       ap (λ (n : ℕ). someTo n (λ j. settles (ceilingAt asks j) (answerAt more j) d)) (add-one k)
-      ∙ ap₂ _||_ (settles-old (going .told) a asks d k (omega (arith, going .each)) ∙ going .settled d)
+      ∙ ap₂ _||_ (settles-old (going .told) a asks d k (omega (arith, going .each)) ∙ going .settled-by d)
       (ap (λ (x : Answer). settles (ceilingAt asks k) x d) new)
       ∙ settled-next p (ceilingAt asks k) (budgetAt asks k) m table table′ r (going .knows) replied m′ a (kept .keeps p) d
 
   going-next : (at : ℕ) (answers′ : List ℕ) → at ≡ length (blocksOf p (going .told)) → answers′ ≡ spliced at (blockOf p a) answers
       → Going p asks lent answers′ table′ m′ (k + 1)
-  unfolding more
+  unfolding more all-left
   going-next at answers′ e is =
       let c = ceilingAt asks k in
       let b = budgetAt asks k in
       record {
         told = more;
+        left = all-left;
         each = omega (arith, length-append (going .told) (a ∷ []), going .each);
         blocks = blocks-next at answers′ e is;
         correct = one-more (λ (i : ℕ) (x : Answer). Correct p (ceilingAt asks i) (budgetAt asks i) x) (going .correct) (replied .correct);
         follows = follows-next;
+        each-left = omega (arith, length-append (going .left) (grown .more ∷ []), going .each-left);
         stock = stock-next;
+        leaves = leaves-next;
         room =
             omega (
               arith,
@@ -141,7 +157,7 @@ module _ (p : Problem) (asks lent answers table : List ℕ) (m : Memory) (k : �
             (λ i l. recalls-old p c b m table table′ r (going .knows) replied m′ a refl (replied .correct) (kept .keeps p) (ceilingAt asks i)
             (answerAt (going .told) i) (going .recalls i l))
             (recalls-new p c b m table table′ r (going .knows) replied m′ a refl (kept .keeps p));
-        settled = settled-more;
+        settled-by = settled-more;
       }
 
 module _ (ws asks : List ℕ) (l : Layout) (k lent room : ℕ) (ok : Admitted ws l asks lent room) (less : k < askCount asks) where
@@ -196,14 +212,17 @@ module _ (ws asks : List ℕ) (l : Layout) (k lent room : ℕ) (ok : Admitted ws
 -- nothing is known on an emptied table
 pub going-start : (p : Problem) (asks lent table : List ℕ) (m : Memory) (n : ℕ) → table ≡ replicate n 0 → SaysNothing m → Going p asks lent lent
     table m 0
-unfolding concluded someTo settledBy blocksOf
+unfolding flatten someTo settledBy blocksOf
 going-start p asks lent table m n e h = record {
   told = [];
+  left = [];
   each = refl;
   blocks = refl;
   correct = λ i l. absurd (omega arith);
   follows = λ i j l b. absurd (omega arith);
+  each-left = refl;
   stock = subst₂ (λ (w : List ℕ) (u : ℕ). Stock p [] w u) (sym e) (sym (h .words)) (stock-none p n);
+  leaves = λ i l. absurd (omega arith);
   room = omega (arith, h .words);
   knows = record {
     least = record { costs = λ s d. omega (arith, h .least) };
@@ -211,7 +230,7 @@ going-start p asks lent table m n e h = record {
     small = h .small;
   };
   recalls = λ i l. absurd (omega arith);
-  settled = λ d. sym (rw (h .unknown, le-ltb d (m .least .0) (omega (arith, h .least))));
+  settled-by = λ d. sym (rw (h .unknown, le-ltb d (m .least .0) (omega (arith, h .least))));
 }
 
 -- ---- between two asks
@@ -222,7 +241,7 @@ pub going-ready : (p : Problem) (asks lent answers table : List ℕ) (m : Memory
     → Ready p table m
 going-ready p asks lent answers table m k h l g = record {
   knows = h .knows;
-  held = record { alone = concluded asks (h .told) k; stock = h .stock };
+  held = record { nogoods = flatten (h .left); stock = h .stock };
   room = omega (arith, h .room);
 }
 
@@ -236,13 +255,14 @@ going-answered p asks lent answers table m k n h l g e =
     let o : k ≡ length asks / 2 = omega arith in
     record {
       told = h .told;
-      nogoods = h .stock .nogoods;
+      left = h .left;
       each = h .each ∙ o;
       blocks = h .blocks;
       correct = λ i b. h .correct i (omega arith);
       follows = λ i j b d. h .follows i j b (omega arith);
-      left = h .stock .table;
-      ended = h .stock .bounds ∙ ap (concluded asks (h .told)) o;
+      each-left = h .each-left ∙ o;
+      stands = h .stock .table;
+      leaves = λ i b. h .leaves i (omega arith);
     }
 
 -- ---- the lent memory keeps its lengths

@@ -3,17 +3,18 @@
 use Prim.Native.Nat.{ℕ, _+_, _≤_, _<_, max}
 use mathlib.Core.Path.{_≡_, refl, sym, _∙_, ap, ap₂, subst, subst₂}
 use mathlib.Core.Bool.{Bool, true, false}
-use mathlib.Core.List.{List, [], _++_, append-nil}
+use mathlib.Core.List.{List}
 use native.Mathlib.Omega.{arith}
 use lib.Dec.{ltb}
 use borrow.Author.Tests.{lt-ltb, le-ltb}
-use Rattle.sums.specs.Logic.{if}
 use Rattle.sums.proofs.LogicLaws.{or-left, or-right}
 use Rattle.model.specs.Problem.{Problem}
 use Rattle.model.specs.Best.{Region}
+use Rattle.model.specs.Nogood.{Nogood}
 use Rattle.model.specs.Answer.{infeasible, Found, Correct}
-use Rattle.model.specs.Asks.{concludes}
-use Rattle.nogood.specs.Stock.{Stock}
+use Rattle.model.specs.Asks.{Leaves}
+use Rattle.nogood.specs.Stock.{Stock, Grown}
+use Rattle.nogood.proofs.StockLaws.{grown-none}
 use Rattle.instance.specs.declared.Euro.{Euro}
 use Rattle.state.specs.declared.Walked.{Walked}
 use Rattle.state.specs.declared.Walked.the-variants.{Dead, Spent}
@@ -40,11 +41,11 @@ found-under p c d k In ss rs h l = record {
 
 module _ (p : Problem) (ceiling budget : ℕ) (m : Memory) (w : List ℕ) (ready : Ready p w m) (r : Reply) where
   -- a settled ask adds nothing to the table
-  nothing-added : settledBy m ceiling ≡ true → r .state .used ≡ m .used → (alone : List ℕ) → Stock p alone w (m .used)
-      → Stock p (alone ++ if (settledBy m ceiling) [] (concludes ceiling (answerOf p r))) w (r .state .used)
-  nothing-added t u alone s =
-      subst₂ (λ (a : List ℕ) (n : ℕ). Stock p a w n)
-      (sym (ap (λ (b : Bool). alone ++ if b [] (concludes ceiling (answerOf p r))) t ∙ append-nil alone)) (sym u) s
+  nothing-added : settledBy m ceiling ≡ true → r .state .used ≡ m .used → (gs : List Nogood) → Stock p gs w (m .used)
+      → Grown p (Leaves (settledBy m ceiling) ceiling (answerOf p r)) gs w (r .state .used)
+  nothing-added t u gs s =
+      subst₂ (λ (b : Bool) (n : ℕ). Grown p (Leaves b ceiling (answerOf p r)) gs w n) (sym t) (sym u)
+      (grown-none p gs w (m .used) (Leaves true ceiling (answerOf p r)) refl s)
 
   -- none, below the least cost
   pub replied-none : ceiling < m .least .0 → SaysNone (m .used) r → Replied p ceiling budget m w w r
@@ -94,8 +95,7 @@ module _ (p : Problem) (ceiling budget : ℕ) (m : Memory) (w : List ℕ) (ready
     correct = a .correct;
     below = λ l. absurd (omega arith);
     again = λ g l. absurd (false-true g);
-    stock = λ alone s.
-        subst (λ (b : Bool). Stock p (alone ++ if b [] (concludes ceiling (answerOf p r))) w′ (r .state .used)) (sym unsettled) (a .stock alone s);
+    stock = λ gs s. subst (λ (b : Bool). Grown p (Leaves b ceiling (answerOf p r)) gs w′ (r .state .used)) (sym unsettled) (a .stock gs s);
     words = a .room;
     long = a .long;
     small = a .small;

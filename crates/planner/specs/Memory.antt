@@ -4,15 +4,15 @@
 use Prim.Native.Nat.{ℕ, _+_, _-_, _≤_, _<_, max}
 use mathlib.Core.Path.{_≡_}
 use mathlib.Core.Bool.{Bool, true, false, _||_}
-use mathlib.Core.List.{List, [], _++_}
+use mathlib.Core.List.{List}
 use lib.Dec.{ltb}
 use lib.ListN.{length}
-use Rattle.sums.specs.Logic.{if}
 use Rattle.model.specs.Problem.{Problem}
 use Rattle.model.specs.Best.{Everywhere}
+use Rattle.model.specs.Nogood.{Nogood}
 use Rattle.model.specs.Answer.{Answer, optimal, infeasible, incumbent, unknown, Found, Correct}
-use Rattle.model.specs.Asks.{concludes}
-use Rattle.nogood.specs.Stock.{Stock}
+use Rattle.model.specs.Asks.{Leaves}
+use Rattle.nogood.specs.Stock.{Stock, Grown}
 use Rattle.state.specs.declared.Walked.the-variants.{Dead}
 use Rattle.search.specs.declared.Reply.{Reply}
 use Rattle.search.specs.Walk.{Held, AllSettled}
@@ -90,9 +90,8 @@ pub record Replied (p : Problem) (ceiling budget : ℕ) (m : Memory) (w w′ : L
   -- none below the least cost, the known plan from there on
   pub below : ceiling < m .least .0 → answerOf p r ≡ infeasible
   pub again : m .known ≡ true → m .least .0 ≤ ceiling → answerOf p r ≡ answerOf p (m .plan)
-  -- the table still holds what is true; an ask that was not settled, and ended unspent, has added the nogood without choices, and nothing else has
-  pub stock : (alone : List ℕ) → Stock p alone w (m .used)
-      → Stock p (alone ++ if (settledBy m ceiling) [] (concludes ceiling (answerOf p r))) w′ (r .state .used)
+  -- what the table held stands there still, and behind it what the ask leaves
+  pub stock : (gs : List Nogood) → Stock p gs w (m .used) → Grown p (Leaves (settledBy m ceiling) ceiling (answerOf p r)) gs w′ (r .state .used)
   pub words : (n : ℕ) → m .used ≤ n → length w - 32 ≤ n → r .state .used ≤ n + 1
   pub long : length w′ ≡ length w
   pub small : r .state .limit .0 ≤ 268435456

@@ -8,8 +8,8 @@ use native.Mathlib.Numerals.{add-one}
 use native.Mathlib.Omega.{arith}
 use lib.ListN.{length, getD}
 use borrow.Author.Tests.{eq-eqb, ne-eqb}
-use Rattle.model.specs.Lines.{askWord, refusedWord, planWord, noneWord, bestWord, spentWord, startsWord, runWord, markWord}
-use Rattle.model.specs.Lines.{numberText, wordsText, scheduleText, markText, bestText, blockText, lineText, linesText, refusalText}
+use Rattle.model.specs.Lines.{askWord, refusedWord, planWord, noneWord, bestWord, spentWord, startsWord, runWord, markWord, soundWord, ruleWord}
+use Rattle.model.specs.Lines.{numberText, wordsText, scheduleText, markText, bestText, blockText, lineText, linesText, refusalText, soundText, ruleText}
 use Rattle.report.specs.Put.{Put, Whole, Listed}
 use Rattle.report.proofs.PutLaws.{put-nothing, put-join, put-most}
 
@@ -151,3 +151,23 @@ refusal-put number place x d d₁ d₂ d₃ d₄ k₁ k₂ k₃ r is f₁ f₂ f
     let two = put-join d d₁ d₂ 0 k₁ k₂ 7 21 refusedWord (numberText number) low f₁ own in
     let three = put-join d d₂ d₃ 0 k₂ k₃ 28 21 (refusedWord ++ numberText number) (numberText place) low two f₃ in
     put-join d d₃ d₄ 0 k₃ r 49 1 (refusedWord ++ numberText number ++ numberText place) (10 ∷ []) low three f₄
+
+-- ---- the line of a judgement
+
+module _ (d d₁ d₂ d₃ : List ℕ) (k₁ k₂ r x : ℕ) (f₂ : Put d₁ d₂ k₁ k₂ 21 (numberText x)) (f₃ : Put d₂ d₃ k₂ r 1 (10 ∷ [])) where
+  -- a word, a number, a line feed
+  word-put : (n : ℕ) (word : List ℕ) → Put d d₁ 0 k₁ n word → Put d d₃ 0 r (n + 21 + 1) (word ++ numberText x ++ (10 ∷ []))
+  word-put n word f₁ =
+      let low : 0 ≤ length d = omega arith in
+      let two = put-join d d₁ d₂ 0 k₁ k₂ n 21 word (numberText x) low f₁ f₂ in
+      put-join d d₂ d₃ 0 k₂ r (n + 21) 1 (word ++ numberText x) (10 ∷ []) low two f₃
+
+  -- a sound grid's
+  pub sound-put : Put d d₁ 0 k₁ 5 soundWord → Put d d₃ 0 r 27 (soundText x)
+  unfolding soundText
+  sound-put f₁ = word-put 5 soundWord f₁
+
+  -- a broken formula's
+  pub rule-put : (number : ℕ) → x ≡ number → Put d d₁ 0 k₁ 4 ruleWord → Put d d₃ 0 r 26 (ruleText number)
+  unfolding ruleText
+  rule-put number is f₁ = rw (← is) (word-put 4 ruleWord f₁)

@@ -10,7 +10,7 @@ use lib.Seq.{length-take-le, take-at, drop-at, take-suc, take-all}
 use borrow.Author.Tests.{lt-ltb, le-ltb}
 use Rattle.lent.specs.Splice.{spliced}
 use Rattle.lent.proofs.SpliceLaws.{splice-none, splice-one, splice-behind, splice-length}
-use Rattle.model.specs.Lines.{digitsTo, numberText, wordsText}
+use Rattle.model.specs.Lines.{digitsTo, numberText, wordsText, Written}
 use Rattle.report.specs.Put.{Put}
 
 -- ---- pieces
@@ -40,20 +40,21 @@ put-most d d′ at r m n ws h l = record { bytes = h .bytes; end = h .end; short
 pub put-as : (d d′ : List ℕ) (at r m : ℕ) (ws vs : List ℕ) → Put d d′ at r m ws → ws ≡ vs → Put d d′ at r m vs
 put-as d d′ at r m ws vs h e = subst (Put d d′ at r m) e h
 
--- a text from the first place on is what is taken
-pub put-taken : (d d′ : List ℕ) (r m : ℕ) (ws : List ℕ) → Put d d′ 0 r m ws → take r d′ ≡ ws
+-- a text from the first place on, which there is room for, is written there
+pub put-written : (d d′ : List ℕ) (r m : ℕ) (ws : List ℕ) → Put d d′ 0 r m ws → m ≤ length d → length d′ ≡ length d → Written ws d d′ r
 unfolding spliced
-put-taken d d′ r m ws h =
-    let n : length ws ≡ r = omega (arith, h .end) in
-    ap (take r) (h .bytes) ∙ take-at ws (drop (0 + length ws) d) r n
-
--- and what stands behind it is as it was
-pub put-kept : (d d′ : List ℕ) (r m : ℕ) (ws : List ℕ) → Put d d′ 0 r m ws → drop r d′ ≡ drop r d
-unfolding spliced
-put-kept d d′ r m ws h =
+put-written d d′ r m ws h room same =
     let n : length ws ≡ r = omega (arith, h .end) in
     let e : 0 + length ws ≡ r = omega arith in
-    ap (drop r) (h .bytes) ∙ drop-at ws (drop (0 + length ws) d) r n ∙ ap (λ (k : ℕ). drop k d) e
+    record {
+      inside = omega (arith, h .end, h .short);
+      front = ap (take r) (h .bytes) ∙ take-at ws (drop (0 + length ws) d) r n;
+      kept = ap (drop r) (h .bytes) ∙ drop-at ws (drop (0 + length ws) d) r n ∙ ap (λ (k : ℕ). drop k d) e;
+    }
+
+-- what is written has as many bytes as are said
+pub written-length : (shown d d′ : List ℕ) (r : ℕ) → Written shown d d′ r → r ≡ length (take r d′)
+written-length shown d d′ r h = sym (length-take-le r d′ (h .inside))
 
 -- ---- digits
 

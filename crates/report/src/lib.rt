@@ -1,9 +1,10 @@
-// The text that the planning program prints, written into lent bytes: a line an ask, by the words of its block, or one line for a refusal.
+// The text that the programs print, written into lent bytes: a line an ask, by the words of its block, or one line for a refusal or a judgement.
 ghost use mathlib.Core.Path.{_≡_};
 ghost use mathlib.Core.List.{[], _∷_};
 ghost use Prim.Native.Nat.{_+_, _*_, _%_, _<_, _≤_};
 ghost use lib.ListN.{length};
-ghost use Rattle.model.specs.Lines.{digitsTo, numberText, wordsText, scheduleText, markText, bestText, blockText, lineText, linesText, refusalText};
+ghost use Rattle.model.specs.Lines.{digitsTo, numberText, wordsText, scheduleText, markText, bestText, blockText, lineText, linesText};
+ghost use Rattle.model.specs.Lines.{refusalText, soundText, ruleText};
 ghost use Rattle.report.specs.Put.{Put, Whole, Listed};
 
 // ---- bytes
@@ -146,7 +147,7 @@ fn put_line(text: &mut [u8], at: usize, answers: &[u32], k: usize, u: usize, w: 
     put_byte(text, block, 10)
 }
 
-// ---- all that is printed
+// ---- all that is printed for an input
 
 // The lines of all asks.
 pub fn lines(text: &mut [u8], answers: &[u32], asks: usize, u: usize, w: usize) -> usize
@@ -170,4 +171,24 @@ pub fn refusal(text: &mut [u8], number: u32, place: usize) -> usize
     let first = put_number(text, refused, wide(number));
     let second = put_number(text, first, place as u64);
     put_byte(text, second, 10)
+}
+
+// The line of a sound grid.
+pub fn sound(text: &mut [u8], cost: u64) -> usize
+    requires { ⌜ 27 ≤ length (now text) ⌝ }
+    ensures { λ r. ⌜ Put (now (text .entry)) (now (text .exit)) 0 r 27 (soundText cost) ⌝ }
+{
+    let word = put_bytes(text, 0, b"sound");
+    let number = put_number(text, word, cost);
+    put_byte(text, number, 10)
+}
+
+// The line of a broken formula.
+pub fn rule(text: &mut [u8], formula: u32) -> usize
+    requires { ⌜ 26 ≤ length (now text) ⌝ }
+    ensures { λ r. ⌜ Put (now (text .entry)) (now (text .exit)) 0 r 26 (ruleText formula) ⌝ }
+{
+    let word = put_bytes(text, 0, b"rule");
+    let number = put_number(text, word, wide(formula));
+    put_byte(text, number, 10)
 }

@@ -3,7 +3,7 @@
 use Prim.Native.Nat.{ℕ, zero, suc, _+_, _-_, _≤_, _<_}
 use mathlib.Core.Path.{_≡_, refl, sym, _∙_, ap, subst}
 use mathlib.Core.Bool.{Bool, true, false}
-use mathlib.Core.List.{List, [], _∷_, append-nil}
+use mathlib.Core.List.{List, [], _∷_}
 use native.Mathlib.Omega.{arith}
 use lib.ListN.{length, replicate}
 use borrow.Author.Tests.{eqb-true, ne-eqb}
@@ -17,6 +17,7 @@ use Rattle.model.specs.Words.{problemOf}
 use Rattle.model.specs.Domain.{permitted, startsBelow, startCount}
 use Rattle.model.specs.Schedule.{Schedule, Sound}
 use Rattle.model.specs.Prefix.{prefixes}
+use Rattle.model.specs.Nogood.{Nogood}
 use Rattle.model.specs.Answer.{optimal, Correct}
 use Rattle.model.specs.Asks.{concludes}
 use Rattle.model.proofs.DomainLaws.{permits-below}
@@ -26,8 +27,8 @@ use Rattle.instance.specs.Filed.{Filed}
 use Rattle.blame.specs.Closed.{startIn}
 use Rattle.blame.specs.Placed.{placed}
 use Rattle.nogood.specs.Noting.{endBounds, endUsed, ended}
-use Rattle.nogood.specs.Stock.{Stock}
-use Rattle.nogood.proofs.StockLaws.{stock-ended, ended-room, ended-length}
+use Rattle.nogood.specs.Stock.{Stock, Grown, DeadEnds}
+use Rattle.nogood.proofs.StockLaws.{grown-next, stock-ended, ended-room, ended-length}
 use Rattle.bound.specs.declared.Trial.{Trial}
 use Rattle.bound.specs.declared.Trial.the-variants.{Holds, Fails}
 use Rattle.bound.specs.Rows.{Rows}
@@ -147,8 +148,8 @@ module _ (p : Problem) (ceiling budget used : ℕ) (w w′ : List ℕ) (st : Sta
   -- there is space for the end of the walk
   pub end-fits : used < length w → Held p w used → step .state .used < length w′
   end-fits h held =
-      let r = f .later .room (length w - 1) (omega (arith, b .used)) (omega arith) in
-      omega (arith, r, f .later .long)
+      let r = f .later .carried .room (length w - 1) (omega (arith, b .used)) (omega arith) in
+      omega (arith, r, f .later .carried .long)
 
   end-small : ceiling < 268435456 → step .state .limit .0 ≤ 268435456
   end-small h = omega (arith, f .later .falls, b .limit)
@@ -180,11 +181,11 @@ module _ (p : Problem) (ceiling budget used : ℕ) (w w′ : List ℕ) (st : Sta
     correct : Correct p ceiling budget (answerIn p (step .state) runs (step .walked))
     correct = answer-correct p fair ceiling budget (step .state) runs led are (step .walked) (f .closes)
 
-    stock-walked : (alone : List ℕ) → Stock p alone w used → Stock p alone w′ (step .state .used)
-    stock-walked alone s = f .later .stock alone (subst (Stock p alone w) (sym (b .used)) s)
+    stock-walked : (gs : List Nogood) → Stock p gs w used → Grown p DeadEnds gs w′ (step .state .used)
+    stock-walked gs s = f .later .carried .stock gs (subst (Stock p gs w) (sym (b .used)) s)
 
     room-walked : (n : ℕ) → used ≤ n → length w - 32 ≤ n → step .state .used ≤ n
-    room-walked n h g = f .later .room n (omega (arith, b .used)) g
+    room-walked n h g = f .later .carried .room n (omega (arith, b .used)) g
 
     -- a walk that ended unspent
     asked-dead : (b′ : ℕ) → step .walked ≡ Dead b′ → w″ ≡ ended w′ (step .state .used) (step .state .limit .0)
@@ -196,15 +197,16 @@ module _ (p : Problem) (ceiling budget used : ℕ) (w w′ : List ℕ) (st : Sta
         })
     asked-dead b′ e t = record {
       correct = correct;
-      stock = λ alone s.
+      stock = λ gs s.
           let settled : AllSettled p (step .state .limit .0) = subst (Closes p budget (step .state)) e (f .closes) in
-          let new = stock-ended p alone w′ (step .state .used) (step .state .limit .0) (stock-walked alone s) (end-fits space held)
-          (end-small small) (settled .costs) in
+          let new = grown-next p gs w′ (step .state .used) [] (endBounds (step .state .limit .0)) (ended w′ (step .state .used) (step .state .limit .0))
+          (endUsed (step .state .used) (step .state .limit .0)) (stock-walked gs s) (λ hs h. stock-ended p hs w′ (step .state .used)
+          (step .state .limit .0) h (end-fits space held) (end-small small) (settled .costs)) in
           let same : concludes ceiling (answerIn p (step .state) runs (step .walked)) ≡ endBounds (step .state .limit .0) =
           ap (λ (k : Walked). concludes ceiling (answerIn p (step .state) runs k)) e ∙ ends-as runs (step .state .found) refl b′ in
           rw (t, same) new;
       room = λ n h g. omega (arith, ended-room (step .state .used) (step .state .limit .0), room-walked n h g);
-      long = ap length t ∙ (ended-length w′ (step .state .used) (step .state .limit .0) ∙ f .later .long);
+      long = ap length t ∙ (ended-length w′ (step .state .used) (step .state .limit .0) ∙ f .later .carried .long);
       untried = settled-idle;
       small = end-small small;
     }
@@ -220,12 +222,12 @@ module _ (p : Problem) (ceiling budget used : ℕ) (w w′ : List ℕ) (st : Sta
         → Asked p ceiling budget w used w″ (record { state = step .state; walked = step .walked; runs = runs })
     asked-spent m e t = record {
       correct = correct;
-      stock = λ alone s.
+      stock = λ gs s.
           let same : concludes ceiling (answerIn p (step .state) runs (step .walked)) ≡ [] =
           ap (λ (k : Walked). concludes ceiling (answerIn p (step .state) runs k)) e ∙ spent-nothing (step .state .found) m in
-          rw (t, same, append-nil alone) (stock-walked alone s);
+          rw (t, same) (stock-walked gs s);
       room = λ n h g. omega (arith, room-walked n h g);
-      long = ap length t ∙ f .later .long;
+      long = ap length t ∙ f .later .carried .long;
       untried = settled-idle;
       small = end-small small;
     }

@@ -52,7 +52,7 @@ module _ (ws : List ℕ) (l : Layout) (w us costs rows ys xs : List ℕ) (j sum 
       let c : Recall w xs (j + 1) limit b = subst (Recalled w xs (j + 1) limit) e r in
       let g = ranged ws (f .passed) in
       record {
-        closed = recall-closed (problemOf ws) (d .held .alone) w xs used (j + 1) limit b (fair ws (f .passed))
+        closed = recall-closed (problemOf ws) (d .held .nogoods) w xs used (j + 1) limit b (fair ws (f .passed))
             (omega (arith, g .weeks-most)) (g .units-most) (omega (arith, d .unit)) (d .held .stock) c;
         within = c .match .within;
       }

@@ -1,7 +1,7 @@
 -- A dead end that is noted keeps what the state and the table say.
 -- Assumes nothing.
 use Prim.Native.Nat.{ℕ, _≤_, _<_}
-use mathlib.Core.Path.{_≡_, sym, _∙_, ap, subst}
+use mathlib.Core.Path.{_≡_, sym, _∙_, ap, subst, subst₂}
 use mathlib.Core.Bool.{true}
 use mathlib.Core.List.{List}
 use native.Mathlib.Nat.{le-refl}
@@ -11,8 +11,8 @@ use Rattle.model.specs.Problem.{Problem}
 use Rattle.model.specs.Domain.{permitted}
 use Rattle.model.specs.Nogood.{Nogood}
 use Rattle.blame.specs.Closed.{startIn, Closed}
-use Rattle.nogood.specs.Noting.{nogoodFor, notedUsed}
-use Rattle.nogood.specs.Stock.{Stock}
+use Rattle.nogood.specs.Noting.{nogoodFor}
+use Rattle.nogood.specs.Stock.{Grown, DeadEnds}
 use Rattle.nogood.proofs.StockLaws.{stock-noted, stock-room, noted-length}
 use Rattle.state.specs.declared.State.{State}
 use Rattle.state.specs.State.{Learnt}
@@ -26,12 +26,13 @@ later-learnt p w w′ st r xs k b few small permits within closed l =
     subst (Later p w st w′) (sym (l .state)) (record {
       falls = le-refl (st .limit .0);
       kept = λ c h. record { under = h .under; none = h .none; plan = h .plan };
-      stock = λ alone h.
-          subst (λ (n : ℕ). Stock p alone w′ n) (sym (l .used))
-          (subst (λ (ws : List ℕ). Stock p alone ws (notedUsed (length w) (st .used) (st .limit .0) g)) (sym (l .table))
-          (stock-noted p alone w xs (st .used) k b (st .limit .0) h few small permits within closed));
-      room = λ n h e. subst (λ (u : ℕ). u ≤ n) (sym (l .used)) (stock-room (length w) (st .used) (st .limit .0) n g h e);
-      long = ap length (l .table) ∙ noted-length w (st .used) (st .limit .0) g;
+      carried = record {
+        stock = λ gs h.
+            subst₂ (Grown p DeadEnds gs) (sym (l .table)) (sym (l .used))
+            (stock-noted p gs w xs (st .used) k b (st .limit .0) h few small permits within closed);
+        room = λ n h e. subst (λ (u : ℕ). u ≤ n) (sym (l .used)) (stock-room (length w) (st .used) (st .limit .0) n g h e);
+        long = ap length (l .table) ∙ noted-length w (st .used) (st .limit .0) g;
+      };
     })
   where
     g : Nogood

@@ -14,21 +14,14 @@ use Rattle.state.specs.declared.Walked.{Walked}
 use Rattle.state.specs.declared.Walked.the-variants.{Dead, Spent}
 use Rattle.state.specs.State.{renewedAt}
 use Rattle.search.specs.Walk.{Leads, Incumbent, Fresh, Closes, Carried, Finished, Unspent, Settles}
+use Rattle.search.proofs.StateLaws.{carried-next, held-carried}
 
 -- ---- the table
 
--- nothing has happened
-pub carried-same : (p : Problem) (w : List ℕ) (used : ℕ) → Carried p w used w used
-carried-same p w used = record { stock = λ alone h. h; room = λ n h g. h; long = refl }
-
 -- another walk
-pub carried-next : (p : Problem) (budget : ℕ) (w₀ w w′ : List ℕ) (used : ℕ) (s : State) (c : Euro) (step : Step) → Carried p w₀ used w (s .used)
+pub carried-walk : (p : Problem) (budget : ℕ) (w₀ w w′ : List ℕ) (used : ℕ) (s : State) (c : Euro) (step : Step) → Carried p w₀ used w (s .used)
     → Finished p budget w w′ (renewedAt s c) step → Carried p w₀ used w′ (step .state .used)
-carried-next p budget w₀ w w′ used s c step x f = record {
-  stock = λ alone h. f .later .stock alone (x .stock alone h);
-  room = λ n h g. f .later .room n (x .room n h g) (subst (λ (k : ℕ). k - 32 ≤ n) (sym (x .long)) g);
-  long = f .later .long ∙ x .long;
-}
+carried-walk p budget w₀ w w′ used s c step x f = carried-next p w₀ w w′ used (s .used) (step .state .used) x (f .later .carried)
 
 -- ---- a walk under another limit
 
@@ -40,7 +33,7 @@ module _ (p : Problem) (w₀ w : List ℕ) (st s : State) (c : Euro) (fresh : Fr
     nothing = refl;
     tries = refl;
     small = omega (arith, fresh .small);
-    held = record { alone = fresh .held .alone; stock = x .stock (fresh .held .alone) (fresh .held .stock) };
+    held = held-carried p w₀ w (st .used) (s .used) (fresh .held) x;
   }
 
   module _ (budget left : ℕ) (w′ : List ℕ) (step : Step) (f : Finished p left w w′ (renewedAt s c) step) where
@@ -70,9 +63,7 @@ module _ (p : Problem) (w₀ w : List ℕ) (st s : State) (c : Euro) (fresh : Fr
       later = record {
         falls = omega (arith, f .later .falls);
         kept = λ ceiling h. found-under (t .plan e) ceiling h some;
-        stock = λ alone h. f .later .stock alone (x .stock alone h);
-        room = λ n h g. f .later .room n (x .room n h g) (subst (λ (k : ℕ). k - 32 ≤ n) (sym (x .long)) g);
-        long = f .later .long ∙ x .long;
+        carried = carried-walk p left w₀ w w′ (st .used) s c step x f;
       };
       closes = ends-unspent (step .walked) (t .unspent e) (f .closes);
     }
@@ -88,9 +79,7 @@ finished-last p budget w₀ w w′ st s step fresh x f = record {
       none = λ _. h .none (fresh .nothing);
       plan = λ z. true-false (sym z);
     });
-    stock = λ alone h. f .later .stock alone (x .stock alone h);
-    room = λ n h g. f .later .room n (x .room n h g) (subst (λ (k : ℕ). k - 32 ≤ n) (sym (x .long)) g);
-    long = f .later .long ∙ x .long;
+    carried = carried-walk p budget w₀ w w′ (st .used) s (st .limit) step x f;
   };
   closes = f .closes;
 }

@@ -2,48 +2,65 @@
 -- Assumes nothing.
 use Prim.Native.Nat.{ℕ, _+_, _-_, _≤_, _<_}
 use mathlib.Core.Path.{refl, sym, _∙_, subst}
-use mathlib.Core.List.{List}
+use mathlib.Core.List.{List, [], _++_}
 use native.Mathlib.Nat.{le-refl, le-trans}
 use native.Mathlib.Omega.{arith}
 use Rattle.sums.proofs.LogicLaws.{true-false}
 use Rattle.model.specs.Problem.{Problem}
+use Rattle.model.specs.Nogood.{boundsAlone}
 use Rattle.instance.specs.declared.Euro.{Euro}
+use Rattle.nogood.specs.Stock.{DeadEnds}
+use Rattle.nogood.proofs.StockLaws.{grown-none, grown-next}
 use Rattle.state.specs.declared.State.{State}
 use Rattle.state.specs.State.{triedOnce, stoppedAt, improvedBy}
-use Rattle.search.specs.Walk.{Leads, Held, Later}
+use Rattle.search.specs.Walk.{Leads, Held, Carried, Later}
+
+-- ---- the table
+
+-- nothing has happened
+pub carried-same : (p : Problem) (w : List ℕ) (used : ℕ) → Carried p w used w used
+unfolding boundsAlone
+carried-same p w used = record { stock = λ gs h. grown-none p gs w used DeadEnds refl h; room = λ n h g. h; long = refl }
+
+-- one after the other
+pub carried-next : (p : Problem) (w w₁ w₂ : List ℕ) (used used₁ used₂ : ℕ) → Carried p w used w₁ used₁ → Carried p w₁ used₁ w₂ used₂
+    → Carried p w used w₂ used₂
+carried-next p w w₁ w₂ used used₁ used₂ x y = record {
+  stock = λ gs h. grown-next p gs w₁ used₁ [] [] w₂ used₂ (x .stock gs h) (y .stock);
+  room = λ n h g. y .room n (x .room n h g) (subst (λ (k : ℕ). k - 32 ≤ n) (sym (x .long)) g);
+  long = y .long ∙ x .long;
+}
+
+-- the table still holds what is true
+pub held-carried : (p : Problem) (w w′ : List ℕ) (used used′ : ℕ) → Held p w used → Carried p w used w′ used′ → Held p w′ used′
+held-carried p w w′ used used′ h c =
+    let g = c .stock (h .nogoods) (h .stock) in
+    record { nogoods = h .nogoods ++ g .more; stock = g .stock }
+
+-- ---- the state
 
 -- nothing has happened
 pub later-same : (p : Problem) (w : List ℕ) (st : State) → Later p w st w st
-later-same p w st = record {
-  falls = le-refl (st .limit .0);
-  kept = λ c h. h;
-  stock = λ alone h. h;
-  room = λ n h g. h;
-  long = refl;
-}
+later-same p w st = record { falls = le-refl (st .limit .0); kept = λ c h. h; carried = carried-same p w (st .used) }
 
 -- one after the other
 pub later-next : (p : Problem) (w w₁ w₂ : List ℕ) (a b c : State) → Later p w a w₁ b → Later p w₁ b w₂ c → Later p w a w₂ c
 later-next p w w₁ w₂ a b c x y = record {
   falls = le-trans (y .falls) (x .falls);
   kept = λ ceiling h. y .kept ceiling (x .kept ceiling h);
-  stock = λ alone h. y .stock alone (x .stock alone h);
-  room = λ n h g. y .room n (x .room n h g) (subst (λ (k : ℕ). k - 32 ≤ n) (sym (x .long)) g);
-  long = y .long ∙ x .long;
+  carried = carried-next p w w₁ w₂ (a .used) (b .used) (c .used) (x .carried) (y .carried);
 }
 
 -- the table still holds what is true
 pub held-later : (p : Problem) (w w′ : List ℕ) (st st′ : State) → Held p w (st .used) → Later p w st w′ st′ → Held p w′ (st′ .used)
-held-later p w w′ st st′ h l = record { alone = h .alone; stock = l .stock (h .alone) (h .stock) }
+held-later p w w′ st st′ h l = held-carried p w w′ (st .used) (st′ .used) h (l .carried)
 
 -- a try is counted
 pub later-tried : (p : Problem) (w : List ℕ) (st : State) → Later p w st w (triedOnce st)
 later-tried p w st = record {
   falls = le-refl (st .limit .0);
   kept = λ c h. record { under = h .under; none = h .none; plan = h .plan };
-  stock = λ alone h. h;
-  room = λ n h g. h;
-  long = refl;
+  carried = carried-same p w (st .used);
 }
 
 -- the mark is set
@@ -51,9 +68,7 @@ pub later-stopped : (p : Problem) (w xs : List ℕ) (k : ℕ) (st : State) → L
 later-stopped p w xs k st = record {
   falls = le-refl (st .limit .0);
   kept = λ c h. record { under = h .under; none = h .none; plan = h .plan };
-  stock = λ alone h. h;
-  room = λ n h g. h;
-  long = refl;
+  carried = carried-same p w (st .used);
 }
 
 -- a better schedule is found, which leads under every ceiling that the limit is under
@@ -66,7 +81,5 @@ later-improved p w xs c st less leads = record {
     none = λ e. true-false e;
     plan = λ e. leads ceiling (h .under);
   };
-  stock = λ alone h. h;
-  room = λ n h g. h;
-  long = refl;
+  carried = carried-same p w (st .used);
 }

@@ -3,14 +3,15 @@
 use Prim.Native.Nat.{ℕ, _+_, _-_, _≤_}
 use mathlib.Core.Path.{_≡_}
 use mathlib.Core.Bool.{Bool, true, false}
-use mathlib.Core.List.{List, _++_}
+use mathlib.Core.List.{List}
 use lib.ListN.{length}
 use Rattle.sums.specs.Range.{listTo}
 use Rattle.model.specs.Problem.{Problem}
+use Rattle.model.specs.Nogood.{Nogood}
 use Rattle.model.specs.Answer.{Answer, optimal, infeasible, incumbent, unknown, Correct}
 use Rattle.model.specs.Asks.{concludes}
 use Rattle.blame.specs.Closed.{startIn}
-use Rattle.nogood.specs.Stock.{Stock}
+use Rattle.nogood.specs.Stock.{Stock, Grown, Ends}
 use Rattle.bound.specs.Tests.{someStartless}
 use Rattle.state.specs.declared.State.{State}
 use Rattle.state.specs.declared.Walked.{Walked}
@@ -37,8 +38,9 @@ answerOf p r = answerIn p (r .state) (r .runs) (r .walked)
 pub record Asked (p : Problem) (ceiling budget : ℕ) (w : List ℕ) (used : ℕ) (w′ : List ℕ) (r : Reply) : Type 0 where
   -- the answer is right for its own ceiling and budget, for all schedules
   pub correct : Correct p ceiling budget (answerOf p r)
-  -- the table still holds what is true; a walk that ended unspent added the nogood without choices under its last bound, and nothing else did
-  pub stock : (alone : List ℕ) → Stock p alone w used → Stock p (alone ++ concludes ceiling (answerOf p r)) w′ (r .state .used)
+  -- what the table held stands there still, and behind it what the walks learnt; a walk that ended unspent added the nogood without choices under its
+  -- last bound, and nothing else did
+  pub stock : (gs : List Nogood) → Stock p gs w used → Grown p (Ends (concludes ceiling (answerOf p r))) gs w′ (r .state .used)
   -- the words used grow to the last 32 at most, and by one at the end of the walk
   pub room : (n : ℕ) → used ≤ n → length w - 32 ≤ n → r .state .used ≤ n + 1
   pub long : length w′ ≡ length w

@@ -14,9 +14,10 @@ use Rattle.model.specs.Domain.{permitted, startCount}
 use Rattle.model.specs.Schedule.{Schedule, Sound, cost}
 use Rattle.model.specs.Order.{Same, Lower, Earlier}
 use Rattle.model.specs.Prefix.{treeSize, passed}
+use Rattle.model.specs.Nogood.{Nogood}
 use Rattle.blame.specs.Closed.{startIn, Closed, Settled}
 use Rattle.blame.specs.Placed.{placed, paid, planOf}
-use Rattle.nogood.specs.Stock.{Stock}
+use Rattle.nogood.specs.Stock.{Stock, Grown, DeadEnds}
 use Rattle.bound.specs.Rows.{Rows}
 use Rattle.relaxation.specs.Relaxed.{priceIn}
 use Rattle.bound.specs.Tests.{Blames, Stands}
@@ -46,17 +47,22 @@ pub record Incumbent (p : Problem) (ceiling : ℕ) (st : State) : Type 0 where
 
 -- the table w holds nogoods that are true, in as many words as are used
 pub record Held (p : Problem) (w : List ℕ) (used : ℕ) : Type 0 where
-  pub alone : List ℕ
-  pub stock : Stock p alone w used
+  pub nogoods : List Nogood
+  pub stock : Stock p nogoods w used
 
--- a walk that was in a state, with the table w, has come to another, with the table w′: its limit has not risen, the best so far is still that, the
--- table still holds what is true, no nogood without choices came to it, and the words used grow to the last 32 at most
+-- a table w in which so many words are used has become w′ with others: what it held stands there still, with dead ends alone behind it, and the
+-- words used grow to the last 32 at most
+pub record Carried (p : Problem) (w : List ℕ) (used : ℕ) (w′ : List ℕ) (used′ : ℕ) : Type 0 where
+  pub stock : (gs : List Nogood) → Stock p gs w used → Grown p DeadEnds gs w′ used′
+  pub room : (n : ℕ) → used ≤ n → length w - 32 ≤ n → used′ ≤ n
+  pub long : length w′ ≡ length w
+
+-- a walk that was in a state, with the table w, has come to another, with the table w′: its limit has not risen, the best so far is still that, and
+-- the table was carried on
 pub record Later (p : Problem) (w : List ℕ) (st : State) (w′ : List ℕ) (st′ : State) : Type 0 where
   pub falls : st′ .limit .0 ≤ st .limit .0
   pub kept : (ceiling : ℕ) → Incumbent p ceiling st → Incumbent p ceiling st′
-  pub stock : (alone : List ℕ) → Stock p alone w (st .used) → Stock p alone w′ (st′ .used)
-  pub room : (n : ℕ) → st .used ≤ n → length w - 32 ≤ n → st′ .used ≤ n
-  pub long : length w′ ≡ length w
+  pub carried : Carried p w (st .used) w′ (st′ .used)
 
 -- ---- places
 
@@ -176,13 +182,6 @@ pub record Fresh (p : Problem) (w : List ℕ) (st : State) : Type 0 where
 abbrev pub Closes : Problem → ℕ → State → Walked → Type 0
 Closes p budget st (Dead b) = AllSettled p (st .limit .0)
 Closes p budget st (Spent m) = Halted p budget st m
-
--- a table w in which so many words are used has become w′ with others: it still holds what is true, no nogood without choices came to it, and the
--- words used grow to the last 32 at most
-pub record Carried (p : Problem) (w : List ℕ) (used : ℕ) (w′ : List ℕ) (used′ : ℕ) : Type 0 where
-  pub stock : (alone : List ℕ) → Stock p alone w used → Stock p alone w′ used′
-  pub room : (n : ℕ) → used ≤ n → length w - 32 ≤ n → used′ ≤ n
-  pub long : length w′ ≡ length w
 
 -- a walk that has ended
 pub record Finished (p : Problem) (budget : ℕ) (w w′ : List ℕ) (st : State) (step : Step) : Type 0 where

@@ -21,7 +21,7 @@ ghost use Rattle.relaxation.specs.Relaxed.{priceIn, Recalls};
 ghost use Rattle.dual.specs.Dual.{Dual};
 ghost use Rattle.bound.specs.Rows.{Rows};
 ghost use Rattle.bound.specs.Tests.{Stands, Judged, someStartless, Permits, RunsOf};
-ghost use Rattle.state.specs.State.{deadAt};
+ghost use Rattle.state.specs.State.{deadAt, renewedAt};
 ghost use Rattle.search.specs.Walk.{Held, Open, Untried, Ready, Leaf, Done, tryRoom, placeRoom, Fresh, Finished, Settles};
 ghost use Rattle.search.specs.Ask.{Asked};
 
@@ -385,41 +385,49 @@ fn root_cost(v: Trial, roots: &[u32; 53], limit: Euro) -> Euro
 }
 
 // By how much the first probe's ceiling lies above the root's bound: an 8,192nd of it, 1 at least.
-fn first_gap(root: Euro) -> u64
-    ensures { λ r. ⌜ 1 ≤ r ⌝ }
+fn first_gap(root: Euro) -> Euro
+    ensures { λ r. ⌜ 1 ≤ r .0 ⌝ }
 {
     let part = root.0 / 8192;
     if part == 0 {
-        return 1;
+        return Euro(1);
     }
-    part
+    Euro(part)
 }
 
 // Gaps below this are tried: the probe's ceiling stays below the ask's, and the gap is no more than a 32nd of the bound.
-fn gap_room(root: Euro, limit: Euro) -> u64
+fn gap_room(root: Euro, limit: Euro) -> Euro
     requires { ⌜ root .0 ≤ limit .0 ⌝ }
-    ensures { λ r. ⌜ root .0 + r ≤ limit .0 ⌝ }
+    ensures { λ r. ⌜ root .0 + r .0 ≤ limit .0 ⌝ }
 {
     let room = limit.0 - root.0;
     let most = root.0 / 32;
     if room == 0 {
-        return 0;
+        return Euro(0);
     }
     if room - 1 <= most {
-        return room - 1;
+        return Euro(room - 1);
     }
-    most + 1
+    Euro(most).plus(Euro(1))
 }
 
 // The next gap: twice this one, or all the room where no tries are left.
-fn next_gap(gap: u64, room: u64, left: u32) -> u64
-    requires { ⌜ (1 ≤ gap) × (gap < room) × (room ≤ 268435456) ⌝ }
-    ensures { λ r. ⌜ gap < r ⌝ }
+fn next_gap(gap: Euro, room: Euro, left: u32) -> Euro
+    requires { ⌜ (1 ≤ gap .0) × (gap .0 < room .0) × (room .0 ≤ 268435456) ⌝ }
+    ensures { λ r. ⌜ gap .0 < r .0 ⌝ }
 {
     if left == 0 {
         return room;
     }
-    gap * 2
+    gap.plus(gap)
+}
+
+// A probe that has not begun: its ceiling lies above the root's bound by the gap, its limit one euro above that.
+fn probe_at(st: State, root: Euro, gap: Euro) -> State
+    requires { ⌜ root .0 + gap .0 < 268435456 ⌝ }
+    ensures { λ r. ⌜ r ≡ renewedAt st (record { 0 = root .0 + gap .0 + 1 }) ⌝ }
+{
+    state::renewed(st, root.plus(gap).plus(Euro(1)))
 }
 
 // The walk of an ask, after walks at ceilings that rise from the root's bound. They share as many tries as the ask's budget; one that finds a plan has
@@ -454,8 +462,8 @@ fn probed(
     let mut gap = first_gap(root);
     let mut left = budget;
     let mut s = st;
-    while gap < room {
-        let probe = state::renewed(s, Euro(root.0 + gap + 1));
+    while gap.0 < room.0 {
+        let probe = probe_at(s, root, gap);
         let step = walk(
             words,
             l,

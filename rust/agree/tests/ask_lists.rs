@@ -329,6 +329,35 @@ fn a_run_does_not_remember_the_one_before() {
     }
 }
 
+/// The first asks of a list leave the table with which the next one begins: it stands, word for word,
+/// in front of what the longer list leaves.
+#[test]
+fn each_ask_begins_with_the_conflicts_of_those_before() {
+    let (mut grown, mut dead_ends) = (0, 0);
+    for seed in 0..300 {
+        let mut random = Random::seeded(seed);
+        let plan = asked_plan(&mut random, 4 + seed as u32 % 3, 4);
+        let file = AskedFile::new(encode(&plan));
+        let asks = telling_asks(file.survey(), &mut random);
+        let table = one_of(&TABLES, &mut random);
+        let mut before: Vec<u32> = Vec::new();
+        for count in 1..=asks.len() {
+            let mut lent = dirty_buffers(&plan, count, table, &mut random);
+            let words = ask_words(&asks[..count]);
+            assert_eq!(proved_asks(file.words(), &words, &mut lent), Ok(()));
+            let origin = format_args!("{count} asks, table {table}, seed {seed}");
+            assert!(lent.table.starts_with(&before), "{origin}");
+            let empty = lent.table.iter().rev().take_while(|&&word| word == 0);
+            let used = table - empty.count();
+            grown += usize::from(before.len() < used && !before.is_empty());
+            before = lent.table[..used].to_vec();
+        }
+        dead_ends += before.iter().filter(|&&word| word >> 28 == 14).count();
+    }
+    println!("{grown} asks added to what those before them left; {dead_ends} choices were left");
+    assert!(grown > 200 && dead_ends > 200);
+}
+
 /// 16 units and one permitted start for each: 32 asks in the longest table.
 #[test]
 fn lists_on_the_largest_file_with_one_start_for_each_unit_agree() {

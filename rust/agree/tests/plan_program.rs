@@ -242,8 +242,11 @@ fn files_with_15_or_16_units_are_refused_last() {
         let line = format!("refused 6 {}", words.len() - 1);
         assert_eq!(determined(&input(&bad, "11:100 12:12")), line);
     }
-    let whole = input(&encode(&largest()), "11:100 12:12");
-    assert_eq!(determined(&whole), "refused 15 0");
+    // the largest blocks of 32 asks have room
+    for asks in [1, 32] {
+        let whole = input(&encode(&largest()), &"11:100 12:12 ".repeat(asks));
+        assert_eq!(determined(&whole), "refused 15 0");
+    }
     let plan = Plan {
         crews: 14,
         ..smallest(1, 14)

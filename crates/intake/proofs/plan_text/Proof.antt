@@ -1,7 +1,6 @@
 -- `intake::plan_text` meets its contract: the line of a refusal, or the lines of all asks.
 -- Assumes nothing.
-use Rattle.report.proofs.PutLaws.{put-kept}
-use Rattle.intake.proofs.TextLaws.{text-denied, text-lines, text-listed, text-short, text-fits}
+use Rattle.intake.proofs.TextLaws.{text-denied, text-lines, text-listed}
 use borrow.Author.Needs.{needs}
 use Rattle.intake.proofs.plan_text.Statement.{statement}
 use Rattle.intake.proofs.plan_text.Tie as tie
@@ -34,7 +33,7 @@ same-length-4 : tie.Need-same-length-4
 same-length-4 c = search needs
 
 returns : tie.Need-returns
-returns c = (search text-denied, (search text-short, search put-kept))
+returns c = search text-denied
 
 same-length-5 : tie.Need-same-length-5
 same-length-5 c = search needs
@@ -49,7 +48,7 @@ same-length-8 : tie.Need-same-length-8
 same-length-8 c = search needs
 
 returns-2 : tie.Need-returns-2
-returns-2 c = (search text-lines, (search text-fits, search put-kept))
+returns-2 c = search text-lines
 
 pub plan-text-spec : {M : Type 1} → statement M
 plan-text-spec =

@@ -233,7 +233,7 @@ place-loop-again t c =
       (
         s .1,
         (
-          s .0 .later .long ∙ t .1 .1 .0,
+          s .0 .later .carried .long ∙ t .1 .1 .0,
           c .before .before .before .before .before .before .before .before .before .before .before .before
               .try-start .kept .1 .1 .1 .1 .1 .1 .1 .1 .1 .1 .1 .1 .1 .1 .0 ∙ t .1 .1 .1,
         ),

@@ -32,7 +32,7 @@ concluded-requires c κs =
     let b = c .before .before .before .before .before .before .before .before .before .before .fresh .ensures in
     let f = c .before .before .before .before .before .before .before .probed .ensures .0 in
     let e = end-asked _ _ _ _ _ _ _ _ b f (a .pre .1 .1 .0 .0) (a .pre .1 .1 .0 .1) (a .pre .1 .1 .1 .0) in
-    (omega (arith, e .0, b .used, f .later .long, a .pre .1 .1 .0 .1), omega (arith, e .1, b .limit, a .pre .1 .1 .0 .0))
+    (omega (arith, e .0, b .used, f .later .carried .long, a .pre .1 .1 .0 .1), omega (arith, e .1, b .limit, a .pre .1 .1 .0 .0))
 
 same-length : tie.Need-same-length
 same-length c = search needs

@@ -1,0 +1,70 @@
+-- Words, bytes and lines as the definitions give them, computed.
+-- Assumes nothing.
+use mathlib.Core.Path.{refl}
+use lib.ListN.{length}
+use Rattle.sums.specs.Range.{someTo, firstTo, listTo}
+use Rattle.sums.specs.NumSet.{has}
+use Rattle.model.specs.Words.{kindOf, valueOf, kindAt, valueAt, layoutOf, problemOf}
+use Rattle.model.specs.Bytes.{wordsTo, loadOf, loadedInto, fileEnd}
+use Rattle.model.specs.Reading.{readOf}
+use Rattle.model.specs.Schedule.{inSpan, outIn, layOut}
+use Rattle.model.specs.Drawing.{drawn, drawVerdict, drawnInto}
+use Rattle.model.specs.Nogood.{nogoodsWords}
+use Rattle.model.specs.Answer.{blocksOf}
+use Rattle.model.specs.Program.{inputFile, inputAsks, plannedBy}
+use Rattle.model.specs.Lines.{printed, judgementText}
+use Rattle.figures.specs.Files.{fileA}
+use Rattle.figures.specs.Cases.{Each}
+use Rattle.figures.specs.Encodings.{wordRows, replyRows, loadedRows, fileEndRows, splitRows, drawnRows, drawnIntoRows, drawnA, blockRows, nogoodRows, lineRows, judgedRows, toldRows, Encodings}
+use Rattle.figures.proofs.CaseLaws.{each-of}
+
+words : Each (λ b. wordsTo (b .0) (b .1)) wordRows
+unfolding wordsTo listTo
+words = each-of (λ b. wordsTo (b .0) (b .1)) wordRows refl
+
+loads : Each (λ b. loadOf (b .0) (b .1)) replyRows
+unfolding loadOf
+loads = each-of (λ b. loadOf (b .0) (b .1)) replyRows refl
+
+loaded : Each (λ b. loadedInto (loadOf (b .0) (length (b .1))) (b .0) (b .1)) loadedRows
+unfolding loadOf loadedInto listTo
+loaded = each-of (λ b. loadedInto (loadOf (b .0) (length (b .1))) (b .0) (b .1)) loadedRows refl
+
+ends : Each fileEnd fileEndRows
+unfolding fileEnd someTo firstTo kindOf
+ends = each-of fileEnd fileEndRows refl
+
+inputs : Each (λ bs. (inputFile bs, inputAsks bs)) splitRows
+unfolding inputFile inputAsks someTo firstTo kindOf listTo
+inputs = each-of (λ bs. (inputFile bs, inputAsks bs)) splitRows refl
+
+drawings : Each (λ d. drawn (problemOf (d .0)) (d .1)) drawnRows
+unfolding drawn listTo layOut outIn inSpan has problemOf layoutOf valueOf valueAt
+drawings = each-of (λ d. drawn (problemOf (d .0)) (d .1)) drawnRows refl
+
+drawn-into : Each drawnA drawnIntoRows
+unfolding drawnInto drawVerdict readOf listTo layOut outIn inSpan has problemOf layoutOf kindOf valueOf kindAt valueAt
+drawn-into = each-of drawnA drawnIntoRows refl
+
+blocks : Each (blocksOf (problemOf fileA)) blockRows
+unfolding blocksOf problemOf layoutOf valueOf valueAt
+blocks = each-of (blocksOf (problemOf fileA)) blockRows refl
+
+nogoods : Each nogoodsWords nogoodRows
+unfolding nogoodsWords
+nogoods = each-of nogoodsWords nogoodRows refl
+
+lines : Each (λ l. printed (l .0) (l .1)) lineRows
+unfolding printed
+lines = each-of (λ l. printed (l .0) (l .1)) lineRows refl
+
+judged-lines : Each judgementText judgedRows
+unfolding judgementText
+judged-lines = each-of judgementText judgedRows refl
+
+told : Each (λ v. plannedBy v (problemOf fileA) 2) toldRows
+unfolding plannedBy problemOf layoutOf valueOf valueAt
+told = each-of (λ v. plannedBy v (problemOf fileA) 2) toldRows refl
+
+pub encodings : Encodings
+encodings = (words, loads, loaded, ends, inputs, drawings, drawn-into, blocks, nogoods, lines, judged-lines, told)

@@ -1,0 +1,13 @@
+-- P1 to P11 hold. One test over all rows is computed, and each row's is carried to its claim, which speaks of all schedules.
+-- Assumes nothing.
+use lib.Dec.{T}
+use Rattle.figures.specs.Rows.{rows, All}
+use Rattle.figures.specs.Tests.{computes}
+use Rattle.figures.proofs.RowLaws.{all-of-computed}
+
+computed : T (computes rows)
+unfolding computes
+computed = tt
+
+pub rows-hold : All rows
+rows-hold = all-of-computed rows computed

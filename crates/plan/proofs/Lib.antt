@@ -1,2 +1,0 @@
--- a part of the text
-pub mod CutLaws
