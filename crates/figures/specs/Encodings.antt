@@ -2,6 +2,7 @@
 -- what the definitions give for small inputs (document 01, "Words of the plan file", "Grids and the judge", "A run of asks", "Worked figures").
 -- Assumes nothing.
 use Prim.Native.Nat.{ℕ}
+use mathlib.Core.Path.{_≡_}
 use mathlib.Core.List.{List, [], _∷_, _++_}
 use lib.ListN.{length, take}
 use Rattle.model.specs.Words.{_∶_, problemOf}
@@ -13,9 +14,9 @@ use Rattle.model.specs.Nogood.{Nogood, nogoodsWords}
 use Rattle.model.specs.Answer.{Answer, optimal, infeasible, incumbent, unknown, blocksOf}
 use Rattle.model.specs.Program.{inputFile, inputAsks, Planned, denied, planned, plannedBy}
 use Rattle.model.specs.Judgement.{Judgement, soundAt, breaks, rejected}
-use Rattle.model.specs.Lines.{printed, judgementText}
+use Rattle.model.specs.Lines.{printed, judgementText, Written, PlanPrinted}
 use Rattle.figures.specs.Files.{fileA, fileLong}
-use Rattle.figures.specs.Cases.{Case, _⟶_, Each, bytesA, askPair, askBytes}
+use Rattle.figures.specs.Cases.{Case, _⟶_, Each, bytesA, askPair, askBytes, alike, bytesOf}
 
 -- ---- bytes
 
@@ -143,6 +144,24 @@ judgedRows =
     ∷ rejected 12 5 ⟶ (114 ∷ 101 ∷ 102 ∷ 117 ∷ 115 ∷ 101 ∷ 100 ∷ 32 ∷ 49 ∷ 50 ∷ 32 ∷ 53 ∷ 10 ∷ [])
     ∷ []
 
+-- "refused 15 0"
+abbrev pub refusedFifteen : List ℕ
+refusedFifteen = 114 ∷ 101 ∷ 102 ∷ 117 ∷ 115 ∷ 101 ∷ 100 ∷ 32 ∷ 49 ∷ 53 ∷ 32 ∷ 48 ∷ 10 ∷ []
+
+-- two bytes in three lent ones that were 9: the third is kept; not a changed third, not other bytes in front, not more than are lent
+abbrev pub WrittenBytes : Type 0
+WrittenBytes =
+    Written (1 ∷ 2 ∷ []) (9 ∷ 9 ∷ 9 ∷ []) (1 ∷ 2 ∷ 9 ∷ []) 2
+    × (Written (1 ∷ 2 ∷ []) (9 ∷ 9 ∷ 9 ∷ []) (1 ∷ 2 ∷ 8 ∷ []) 2 → ⊥)
+    × (Written (1 ∷ 2 ∷ []) (9 ∷ 9 ∷ 9 ∷ []) (1 ∷ 3 ∷ 9 ∷ []) 2 → ⊥)
+    × (Written (1 ∷ 2 ∷ []) (9 ∷ 9 ∷ []) (1 ∷ 2 ∷ []) 3 → ⊥)
+
+-- the planning program on 15 units prints the refusal's line before what was lent, and no other text
+abbrev pub PrintedRefusal : Type 0
+PrintedRefusal = (rest : List ℕ)
+    → PlanPrinted (bytesOf (alike 15) ++ askBytes) (refusedFifteen ++ rest) (refusedFifteen ++ rest) 13
+    × ((text : List ℕ) (r : ℕ) → PlanPrinted (bytesOf (alike 15) ++ askBytes) (refusedFifteen ++ rest) text r → take r text ≡ refusedFifteen)
+
 -- what is told by a verdict on file A and two asks
 abbrev pub toldRows : List (Case Verdict Planned)
 toldRows =
@@ -166,4 +185,5 @@ Encodings =
     × Each nogoodsWords nogoodRows
     × Each (λ l. printed (l .0) (l .1)) lineRows
     × Each judgementText judgedRows
+    × WrittenBytes × PrintedRefusal
     × Each (λ v. plannedBy v (problemOf fileA) 2) toldRows
