@@ -3,14 +3,15 @@
 -- Assumes nothing.
 use Prim.Native.Nat.{ℕ, zero, suc, _+_, _≤_, _<_}
 use mathlib.Core.Path.{_≡_, refl, sym, _∙_, ap, subst, fun-ext}
-use mathlib.Core.Bool.{Bool, true, false, _&&_, _||_}
+use mathlib.Core.Bool.{Bool, true, false, not, _&&_, _||_}
 use mathlib.Core.Logic.{_⊎_, inl, inr, ⊎-elim}
 use native.Mathlib.Nat.{not-suc-le-zero, le-of-suc-le-suc, eq-or-lt-of-le, le-refl}
 use native.Mathlib.Omega.{arith}
 use lib.Dec.{ltb, eqb}
 use borrow.Author.Tests.{ltb-true, lt-ltb, le-ltb, eq-eqb, ne-eqb}
 use Rattle.sums.specs.Sum.{sumTo}
-use Rattle.sums.specs.NumSet.{NumSet}
+use Rattle.sums.specs.NumSet.{NumSet, away}
+use Rattle.sums.proofs.NumSetLaws.{pick-agree}
 use Rattle.sums.proofs.LogicLaws.{and-last-false, and-last-true, or-last-false, not-so, same-test, ltb-total}
 use Rattle.sums.proofs.SumLaws.{sum-mono, sum-same}
 use Rattle.model.specs.Problem.{Problem, Fair}
@@ -25,21 +26,24 @@ use Rattle.model.specs.Commitment.{
   Cheapest,
   NoRun,
   NO_RUN,
+  lineCost,
   runCost,
+  fullCost,
   runBefore,
   pickCost,
   leastCost,
+  fullLeast,
   cheapestRun,
 }
 use Rattle.model.specs.Plan.{Compatible, Plan, upkeep, upkeepAt, runCostAt, planCost}
 use Rattle.model.specs.Order.{Same, Lower, Earlier}
 use Rattle.model.proofs.DomainLaws.{span-from, span-below, span-of}
-use Rattle.model.proofs.CommitmentLaws.{fewer-out, cheapest-right, least-of}
+use Rattle.model.proofs.CommitmentLaws.{fewer-out, cheapest-right, cheapest-full, least-of}
 use Rattle.model.proofs.ScheduleLaws.{sound-plan, plan-sound, cost-plan}
 use Rattle.blame.specs.Closed.{Closed, Settled}
 use Rattle.blame.specs.Placed.{firstUnits, placed, partly, joined, paid, Standing, runOf, runAt, planOf}
 use Rattle.blame.proofs.PairLaws.{compatible-same}
-use Rattle.blame.proofs.BoundLaws.{least-below, paid-parts}
+use Rattle.blame.proofs.BoundLaws.{paid-parts}
 
 -- ---- sums
 
@@ -65,23 +69,50 @@ sum-less (suc n) t f g h less le =
 
 -- ---- only the units of the problem count
 
+-- no run costs less than the cheapest
+least-serves : (p : Problem) (t : ℕ) (out : NumSet) (r : ℕ) → Serves p t out r → leastCost p t out ≤ runCost p t out r
+unfolding leastCost pickCost
+least-serves p t out r s = go (cheapestRun p t out) (cheapest-right p t out)
+  where
+    go : (f : Pick) → IsPick p t out f → pickCost (runCost p t out) f ≤ runCost p t out r
+    go nothing none = absurd (none r s)
+    go (picked q) c = c .least r s
+
 module _ (p : Problem) (t : ℕ) (a b : NumSet) (same : (i : ℕ) → i < p .units → a i ≡ b i) where
-  -- the same units out leave the same cheapest run
+  there : (r : ℕ) → Serves p t a r → Serves p t b r
+  there = fewer-out p t b a (λ i h e. same i h ∙ e)
+
+  back : (r : ℕ) → Serves p t b r → Serves p t a r
+  back = fewer-out p t a b (λ i h e. sym (same i h) ∙ e)
+
+  -- the same units out leave a run's cost
+  pub run-same : (r : ℕ) → runCost p t a r ≡ runCost p t b r
+  unfolding runCost away
+  run-same r = pick-agree (p .units) (away b) (away a) (lineCost p t r) (λ i h. ap not (same i h))
+
+  -- and the cheapest run's
   pub least-same : leastCost p t a ≡ leastCost p t b
   unfolding leastCost pickCost
   least-same = go (cheapestRun p t a) (cheapest-right p t a) (cheapestRun p t b) (cheapest-right p t b)
     where
-      there : (r : ℕ) → Serves p t a r → Serves p t b r
-      there = fewer-out p t b a (λ i h e. same i h ∙ e)
-
-      back : (r : ℕ) → Serves p t b r → Serves p t a r
-      back = fewer-out p t a b (λ i h e. sym (same i h) ∙ e)
-
-      go : (f : Pick) → IsPick p t a f → (g : Pick) → IsPick p t b g → pickCost p t f ≡ pickCost p t g
+      go : (f : Pick) → IsPick p t a f → (g : Pick) → IsPick p t b g → pickCost (runCost p t a) f ≡ pickCost (runCost p t b) g
       go nothing none nothing _ = refl
       go nothing none (picked r) d = absurd (none r (back r (d .serves)))
       go (picked q) c nothing none = absurd (none q (there q (c .serves)))
-      go (picked q) c (picked r) d = omega (arith, c .least r (back r (d .serves)), d .least q (there q (c .serves)))
+      go (picked q) c (picked r) d =
+          omega (arith, c .least r (back r (d .serves)), d .least q (there q (c .serves)), run-same q, run-same r)
+
+  -- with OFF charged to the units out too
+  pub full-same : fullLeast p t a ≡ fullLeast p t b
+  unfolding fullLeast pickCost
+  full-same = go (cheapestRun p t a) (cheapest-right p t a) (cheapestRun p t b) (cheapest-right p t b)
+    where
+      go : (f : Pick) → IsPick p t a f → (g : Pick) → IsPick p t b g → pickCost (fullCost p t) f ≡ pickCost (fullCost p t) g
+      go nothing none nothing _ = refl
+      go nothing none (picked r) d = absurd (none r (back r (d .serves)))
+      go (picked q) c nothing none = absurd (none q (there q (c .serves)))
+      go (picked q) c (picked r) d =
+          omega (arith, cheapest-full p t a q r c (back r (d .serves)), cheapest-full p t b r q d (there q (c .serves)))
 
 -- ---- the first k units
 
@@ -105,7 +136,7 @@ module _ (p : Problem) (starts other : ℕ → ℕ) (k : ℕ) (same : (i : ℕ) 
   standing-agree s = record {
     permits = λ i h. ap (permitted p i) (sym (same i h)) ∙ s .permits i h;
     compatible = λ t l. subst (Compatible p) (fun-ext (placed-agree t)) (s .compatible t l);
-    served = λ t l. subst (λ (a : NumSet). leastCost p t a < NO_RUN) (fun-ext (placed-agree t)) (s .served t l);
+    served = λ t l. subst (λ (a : NumSet). fullLeast p t a < NO_RUN) (fun-ext (placed-agree t)) (s .served t l);
   }
 
 -- ---- unit k, a week at a time
@@ -158,23 +189,14 @@ module _ (p : Problem) (starts : ℕ → ℕ) (k n t i : ℕ) where
       back : inSpan (starts k) n t ≡ true → inSpan (starts k) (n + 1) t ≡ true
       back e = span-of (starts k) (n + 1) t (span-from (starts k) n t e) (omega (arith, span-below (starts k) n t e))
 
--- ---- a week without a run
+-- ---- a week with a run
 
--- a least cost of NO_RUN, where every run costs less, says that there is none
-pub least-lacks : (p : Problem) (t : ℕ) (a : NumSet) → ((r : ℕ) → Serves p t a r → runCost p t r < NO_RUN) → NO_RUN ≤ leastCost p t a → NoRun p t a
-unfolding leastCost pickCost
-least-lacks p t a small high = go (cheapestRun p t a) (cheapest-right p t a) high
-  where
-    go : (f : Pick) → IsPick p t a f → NO_RUN ≤ pickCost p t f → NoRun p t a
-    go nothing none h = none
-    go (picked q) c h = absurd (omega (arith, small q (c .serves)))
-
--- and one below NO_RUN, that the run picked is the cheapest
-picked-cheapest : (p : Problem) (t : ℕ) (a : NumSet) → leastCost p t a < NO_RUN → Cheapest p t a (runOf (cheapestRun p t a))
-unfolding leastCost pickCost runOf
+-- a least cost below NO_RUN says that the run picked is the cheapest
+picked-cheapest : (p : Problem) (t : ℕ) (a : NumSet) → fullLeast p t a < NO_RUN → Cheapest p t a (runOf (cheapestRun p t a))
+unfolding fullLeast pickCost runOf
 picked-cheapest p t a low = go (cheapestRun p t a) (cheapest-right p t a) low
   where
-    go : (f : Pick) → IsPick p t a f → pickCost p t f < NO_RUN → Cheapest p t a (runOf f)
+    go : (f : Pick) → IsPick p t a f → pickCost (fullCost p t) f < NO_RUN → Cheapest p t a (runOf f)
     go nothing none h = absurd (omega arith)
     go (picked q) c h = c
 
@@ -193,6 +215,13 @@ module _ (p : Problem) (starts : ℕ → ℕ) (fair : Fair p) where
       fewer-out p t (outIn p starts t) (outIn p (s .start) t) (λ i h e. ap (λ (v : ℕ). inSpan v (p .duration i) t) (same i h) ∙ e) (s .run t)
       (sound-plan p s fair sound .serves t l)
 
+  -- at the same cost
+  out-same : (s : Schedule) → Same (p .units) (s .start) starts → (t : ℕ)
+      → runCost p t (outIn p starts t) (s .run t) ≡ runCost p t (outIn p (s .start) t) (s .run t)
+  unfolding outIn
+  out-same s same t =
+      run-same p t (outIn p starts t) (outIn p (s .start) t) (λ i h. ap (λ (v : ℕ). inSpan v (p .duration i) t) (sym (same i h))) (s .run t)
+
   -- the overhauls of a schedule with the same starts cost the same
   upkeep-same : (s : Schedule) → Same (p .units) (s .start) starts → sumTo (p .units) (upkeepAt p (s .start)) ≡ sumTo (p .units) (upkeepAt p starts)
   unfolding upkeepAt
@@ -200,19 +229,22 @@ module _ (p : Problem) (starts : ℕ → ℕ) (fair : Fair p) where
 
   -- no sound schedule with these starts costs less than they do with each week's cheapest run
   pub leaf-least : (s : Schedule) → Sound p s → Same (p .units) (s .start) starts → paid p (placed p starts (p .units)) ≤ cost p s
-  unfolding planCost runCostAt
+  unfolding planCost runCostAt outIn
   leaf-least s sound same = omega (
     arith,
     cost-plan p s (sound .schedule),
     paid-parts p starts (p .units) (le-refl (p .units)),
     upkeep-same s same,
-    sum-mono (p .weeks) (λ t. leastCost p t (placed p starts (p .units) t)) (runCostAt p (s .run)) week,
+    sum-mono (p .weeks) (λ t. leastCost p t (placed p starts (p .units) t)) (runCostAt p (s .start) (s .run)) week,
   )
     where
-      week : (t : ℕ) → t < p .weeks → leastCost p t (placed p starts (p .units) t) ≤ runCost p t (s .run t)
-      week t l =
-          least-below p t (placed p starts (p .units) t) (outIn p starts t) (s .run t) (λ i h e. sym (placed-all p starts t i h) ∙ e)
-          (run-there s sound same t l)
+      week : (t : ℕ) → t < p .weeks → leastCost p t (placed p starts (p .units) t) ≤ runCost p t (outIn p (s .start) t) (s .run t)
+      week t l = omega (
+        arith,
+        least-same p t (placed p starts (p .units) t) (outIn p starts t) (placed-all p starts t),
+        least-serves p t (outIn p starts t) (s .run t) (run-there s sound same t l),
+        out-same s same t,
+      )
 
   -- so they are a dead end below that
   pub leaf-closed : Closed p (firstUnits (p .units)) starts (paid p (placed p starts (p .units)))
@@ -225,7 +257,7 @@ module _ (p : Problem) (starts : ℕ → ℕ) (fair : Fair p) where
     unfolding runAt
     run-cheapest t l =
         picked-cheapest p t (outIn p starts t)
-        (omega (arith, standing .served t l, least-same p t (placed p starts (p .units) t) (outIn p starts t) (placed-all p starts t)))
+        (omega (arith, standing .served t l, full-same p t (placed p starts (p .units) t) (outIn p starts t) (placed-all p starts t)))
 
     leaf-plan : Plan p (planOf p starts)
     leaf-plan = record {
@@ -247,10 +279,10 @@ module _ (p : Problem) (starts : ℕ → ℕ) (fair : Fair p) where
       arith,
       cost-plan p (planOf p starts) (leaf-sound .schedule),
       paid-parts p starts (p .units) (le-refl (p .units)),
-      sum-same (p .weeks) (λ t. leastCost p t (placed p starts (p .units) t)) (runCostAt p (runAt p starts)) week,
+      sum-same (p .weeks) (λ t. leastCost p t (placed p starts (p .units) t)) (runCostAt p starts (runAt p starts)) week,
     )
       where
-        week : (t : ℕ) → t < p .weeks → leastCost p t (placed p starts (p .units) t) ≡ runCost p t (runAt p starts t)
+        week : (t : ℕ) → t < p .weeks → leastCost p t (placed p starts (p .units) t) ≡ runCost p t (outIn p starts t) (runAt p starts t)
         week t l =
             least-same p t (placed p starts (p .units) t) (outIn p starts t) (placed-all p starts t)
             ∙ least-of p t (outIn p starts t) (runAt p starts t) (run-cheapest t l)
@@ -265,9 +297,13 @@ module _ (p : Problem) (starts : ℕ → ℕ) (fair : Fair p) where
       cost-plan p (planOf p starts) (leaf-sound .schedule),
       cost-plan p q (sound .schedule),
       upkeep-same q same,
-      sum-less (p .weeks) (lower .at) (runCostAt p (runAt p starts)) (runCostAt p (q .run)) (lower .below)
-          (run-cheapest (lower .at) (lower .below) .first (q .run (lower .at)) (run-there q sound same (lower .at) (lower .below)) (lower .less))
-          (λ t l. run-cheapest t l .least (q .run t) (run-there q sound same t l)),
+      sum-less (p .weeks) (lower .at) (runCostAt p starts (runAt p starts)) (runCostAt p (q .start) (q .run)) (lower .below)
+          (omega (
+            arith,
+            out-same q same (lower .at),
+            run-cheapest (lower .at) (lower .below) .first (q .run (lower .at)) (run-there q sound same (lower .at) (lower .below)) (lower .less),
+          ))
+          (λ t l. omega (arith, out-same q same t, run-cheapest t l .least (q .run t) (run-there q sound same t l))),
     )
 
     -- every earlier sound schedule costs more, where all before these starts are settled at a limit above the cost

@@ -10,7 +10,7 @@ use Rattle.sums.specs.NumSet.{NumSet}
 use Rattle.model.specs.Problem.{Problem}
 use Rattle.model.specs.Domain.{permitted}
 use Rattle.model.specs.Schedule.{Schedule, inSpan, outIn}
-use Rattle.model.specs.Commitment.{Pick, nothing, picked, outCost, leastCost, cheapestRun, NO_RUN}
+use Rattle.model.specs.Commitment.{Pick, nothing, picked, outCost, leastCost, fullLeast, cheapestRun, NO_RUN}
 use Rattle.model.specs.Plan.{Compatible}
 
 -- the units below k
@@ -47,7 +47,7 @@ paid p out = sumTo (p .weeks) (weekPaid p out)
 pub record Standing (p : Problem) (starts : ℕ → ℕ) (k : ℕ) : Type 0 where
   pub permits : (i : ℕ) → i < k → permitted p i (starts i) ≡ true
   pub compatible : (t : ℕ) → t < p .weeks → Compatible p (placed p starts k t)
-  pub served : (t : ℕ) → t < p .weeks → leastCost p t (placed p starts k t) < NO_RUN
+  pub served : (t : ℕ) → t < p .weeks → fullLeast p t (placed p starts k t) < NO_RUN
 
 -- the run that was picked, 0 for none
 unfoldable pub runOf : Pick → ℕ

@@ -11,7 +11,7 @@ use Rattle.sums.proofs.LoopLaws.{place-next}
 use Rattle.model.specs.declared.Layout.{Layout}
 use Rattle.model.specs.Problem.{Problem}
 use Rattle.model.specs.Schedule.{outIn}
-use Rattle.model.specs.Commitment.{Pick, nothing, picked, IsPick, Serves, cheapestRun}
+use Rattle.model.specs.Commitment.{runCost, Pick, nothing, picked, IsPick, Serves, cheapestRun}
 use Rattle.model.specs.Words.{problemOf}
 use Rattle.model.proofs.CommitmentLaws.{cheapest-right, cheapest-picked, none-picked, fewer-out}
 use Rattle.instance.specs.Filed.{Filed}
@@ -21,6 +21,7 @@ use Rattle.commitment.specs.declared.Found.the-variants.{Nothing, Run}
 use Rattle.commitment.specs.Answers.{Answers}
 use Rattle.instance.specs.declared.Euro.{Euro}
 use Rattle.blame.specs.Placed.{placed, runOf, runAt}
+use Rattle.blame.proofs.PlacedLaws.{run-same as cost-same}
 use Rattle.bound.specs.Rows.{Rows}
 use Rattle.bound.specs.Tests.{Due, Permits, RunsOf}
 
@@ -37,7 +38,7 @@ module _ (p : Problem) (t out : ℕ) (found : Found) (a : Answers p t (has out) 
   unfolding runOf
   run-found r c e = rw (cheapest-picked p t (has out) r (subst (Answers p t (has out)) e a .0))
 
--- the same units out leave the same run
+-- the same units out leave the same run: each run costs the same
 pub run-same : (p : Problem) (t : ℕ) (a b : NumSet) → ((i : ℕ) → i < p .units → a i ≡ b i) → cheapestRun p t a ≡ cheapestRun p t b
 run-same p t a b same = go (cheapestRun p t a) (cheapest-right p t a)
   where
@@ -47,12 +48,15 @@ run-same p t a b same = go (cheapestRun p t a) (cheapest-right p t a)
     back : (r : ℕ) → Serves p t b r → Serves p t a r
     back = fewer-out p t a b (λ i h e. sym (same i h) ∙ e)
 
+    cost : (r : ℕ) → runCost p t a r ≡ runCost p t b r
+    cost = cost-same p t a b same
+
     go : (f : Pick) → IsPick p t a f → f ≡ cheapestRun p t b
     go nothing none = sym (none-picked p t b (λ r s. none r (back r s)))
     go (picked r) c = sym (cheapest-picked p t b r (record {
       serves = there r (c .serves);
-      least = λ q s. c .least q (back q s);
-      first = λ q s. c .first q (back q s);
+      least = λ q s. omega (arith, c .least q (back q s), cost r, cost q);
+      first = λ q s e. omega (arith, c .first q (back q s) e, cost r, cost q);
     }))
 
 -- ---- all units placed

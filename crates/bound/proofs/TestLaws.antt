@@ -13,17 +13,17 @@ use borrow.Author.Tests.{ltb-true, eqb-true, lt-ltb, le-ltb}
 use Rattle.sums.specs.Logic.{if}
 use Rattle.sums.specs.Sum.{sumTo, added, turned}
 use Rattle.sums.specs.Range.{listTo}
-use Rattle.sums.specs.NumSet.{NumSet, pick, has}
+use Rattle.sums.specs.NumSet.{NumSet, parts, has}
 use Rattle.sums.proofs.LogicLaws.{true-false, and-of, and-left, and-right}
 use Rattle.sums.proofs.SumLaws.{sum-at-most, sum-same}
 use Rattle.sums.proofs.RangeLaws.{list-length, list-at}
-use Rattle.sums.proofs.NumSetLaws.{pick-most, zero-has}
+use Rattle.sums.proofs.NumSetLaws.{zero-has}
 use Rattle.sums.proofs.LoopLaws.{sum-next, place-next}
 use Rattle.model.specs.declared.Layout.{Layout}
 use Rattle.model.specs.Problem.{Problem}
 use Rattle.model.specs.Domain.{permitted}
 use Rattle.model.specs.Schedule.{outIn, inSpan}
-use Rattle.model.specs.Commitment.{NO_RUN, leastCost}
+use Rattle.model.specs.Commitment.{NO_RUN, fullLeast}
 use Rattle.model.specs.Plan.{Compatible}
 use Rattle.model.specs.Words.{problemOf}
 use Rattle.model.proofs.DomainLaws.{permits-ends, span-of}
@@ -54,14 +54,16 @@ module _ (ws : List ℕ) (l : Layout) (us clashes costs roots : List ℕ) (f : F
 
   -- an overhaul at prices, from any start
   priced-small : (i s : ℕ) → i < prob .units → priced prob (priceIn us) i s ≤ 268435456
-  unfolding priced added turned priceIn
+  unfolding priced parts added turned priceIn
   priced-small i s h =
-      let g = ranged ws (f .passed) in
-      let week : (t : ℕ) → t < prob .weeks → prob .maint t i + getD us (t * 16 + i) 0 ≤ 4444304
-      = λ t b. omega (arith, g .maint-most t i b h, d .small .small (t * 16 + i)) in
-      let b = sum-at-most (prob .weeks) 4444304 (pick (inSpan s (prob .duration i)) (added (turned (prob .maint) i) (turned (priceIn us) i)))
-      (λ t b. pick-most (inSpan s (prob .duration i)) (added (turned (prob .maint) i) (turned (priceIn us) i)) 4444304 t (week t b)) in
-      omega (arith, b, mul-le-mul-right 4444304 (g .weeks-most))
+      let terms = parts (inSpan s (prob .duration i)) (added (turned (prob .maint) i) (turned (priceIn us) i)) (turned (prob .off) i) in
+      let b = sum-at-most (prob .weeks) 4444304 terms (λ t b. week t b (inSpan s (prob .duration i) t)) in
+      omega (arith, b, mul-le-mul-right 4444304 (ranged ws (f .passed) .weeks-most))
+    where
+      week : (t : ℕ) → t < problemOf ws .weeks → (c : Bool)
+          → if c (problemOf ws .maint t i + getD us (t * 16 + i) 0) (problemOf ws .off t i) ≤ 4444304
+      week t b true = omega (arith, ranged ws (f .passed) .maint-most t i b h, d .small .small (t * 16 + i))
+      week t b false = omega (arith, ranged ws (f .passed) .off-most t i b h)
 
   -- a unit's part
   unit-small : (b : NumSet) (starts : ℕ → ℕ) (i : ℕ) → i < prob .units → unitBound prob (priceIn us) b starts (leastIn costs) i ≤ 268435456
@@ -90,7 +92,7 @@ module _ (ws : List ℕ) (l : Layout) (us clashes costs roots : List ℕ) (f : F
 -- unit j out for the first k weeks of its overhaul: in each week the units out may be out together and leave a run, and r is a lower bound
 pub record TestedTo (p : Problem) (u : ℕ → ℕ → ℕ) (costs : List ℕ) (starts : ℕ → ℕ) (j k : ℕ) (xs : List ℕ) (r : ℕ) : Type 0 where
   pub compatible : (t : ℕ) → t < p .weeks → Compatible p (partly p starts j k t)
-  pub served : (t : ℕ) → t < p .weeks → leastCost p t (partly p starts j k t) < NO_RUN
+  pub served : (t : ℕ) → t < p .weeks → fullLeast p t (partly p starts j k t) < NO_RUN
   pub bounds : Bounds p u costs (firstUnits (j + 1)) starts xs r
 
 -- whatever the starts that the rows and the bound belong to, with unit j's first week
@@ -107,7 +109,7 @@ testing-start p u costs rows xs j first sum = record { each = λ starts d s b e.
         let same : (t : ℕ) → placed p starts j t ≡ partly p starts j 0 t = λ t. sym (fun-ext (partly-none p starts j t)) in
         record {
           compatible = λ t l. subst (Compatible p) (same t) (s .compatible t l);
-          served = λ t l. subst (λ (a : NumSet). leastCost p t a < NO_RUN) (same t) (s .served t l);
+          served = λ t l. subst (λ (a : NumSet). fullLeast p t a < NO_RUN) (same t) (s .served t l);
           bounds = b;
         }
 
@@ -165,11 +167,11 @@ module _ (ws : List ℕ) (l : Layout) (us costs rows xs : List ℕ) (j first sum
       compatible t m (yes q) = subst (λ (x : ℕ). Compatible p (partly p starts j (k + 1) x)) (sym q) (subst (Compatible p) here (holds .compatible))
       compatible t m (no q) = subst (Compatible p) (else t q) (now .compatible t m)
 
-      served : (t : ℕ) → t < p .weeks → Dec (t ≡ first + k) → leastCost p t (partly p starts j (k + 1) t) < NO_RUN
+      served : (t : ℕ) → t < p .weeks → Dec (t ≡ first + k) → fullLeast p t (partly p starts j (k + 1) t) < NO_RUN
       served t m (yes q) =
-          subst (λ (x : ℕ). leastCost p x (partly p starts j (k + 1) x) < NO_RUN) (sym q)
-          (subst (λ (a : NumSet). leastCost p (first + k) a < NO_RUN) here (holds .serves))
-      served t m (no q) = subst (λ (a : NumSet). leastCost p t a < NO_RUN) (else t q) (now .served t m)
+          subst (λ (x : ℕ). fullLeast p x (partly p starts j (k + 1) x) < NO_RUN) (sym q)
+          (subst (λ (a : NumSet). fullLeast p (first + k) a < NO_RUN) here (holds .serves))
+      served t m (no q) = subst (λ (a : NumSet). fullLeast p t a < NO_RUN) (else t q) (now .served t m)
 
       -- who is out in that week, unit j among them, is out by the first j + 1 starts
       out-too : weeks ≡ p .duration j → (i : ℕ) → i < p .units → joined (placed p starts j (first + k)) j i ≡ true
@@ -291,7 +293,7 @@ module _ (ws : List ℕ) (l : Layout) (us costs rows starts xs : List ℕ) (j su
     λ less. record {
       permits = λ i m. permits i m (ℕ-discrete i j);
       compatible = λ t m. subst (Compatible p) (all t) (at-now .compatible t m);
-      served = λ t m. subst (λ (x : NumSet). leastCost p t x < NO_RUN) (all t) (at-now .served t m);
+      served = λ t m. subst (λ (x : NumSet). fullLeast p t x < NO_RUN) (all t) (at-now .served t m);
     },
   )
     where
@@ -471,7 +473,7 @@ module _ (ws : List ℕ) (l : Layout) (us clashes costs roots : List ℕ) (f : F
         standing = record {
           permits = λ i m. absurd (omega arith);
           compatible = λ q m. compatible-none (problemOf ws) (placed (problemOf ws) starts 0 q) (placed-none (problemOf ws) starts q);
-          served = λ q m. subst (λ (x : NumSet). leastCost (problemOf ws) q x < NO_RUN) (none-out starts q)
+          served = λ q m. subst (λ (x : NumSet). fullLeast (problemOf ws) q x < NO_RUN) (none-out starts q)
               (d .roots .each q m .serves (h .served q (omega (arith, all-weeks))));
         };
         bounds = root-bounds starts xs (fr .long) (λ q m. fr .each q (omega (arith, weeks-are ws l f, f .weeks-most)));

@@ -16,7 +16,7 @@ use Rattle.model.specs.declared.Layout.{Layout}
 use Rattle.model.specs.Pairs.{apart}
 use Rattle.model.specs.Rules.{headcount}
 use Rattle.model.specs.Schedule.{outIn}
-use Rattle.model.specs.Commitment.{NO_RUN, leastCost}
+use Rattle.model.specs.Commitment.{NO_RUN, fullLeast}
 use Rattle.model.specs.Plan.{Compatible}
 use Rattle.model.specs.Words.{problemOf}
 use Rattle.model.proofs.FileLaws.{ranged, fair}
@@ -133,7 +133,7 @@ module _ (ws : List ℕ) (l : Layout) (clashes : List ℕ) (j t word both : ℕ)
         let same = joins ws l j t word y z f h e w more in
         record {
           compatible = together;
-          serves = subst (λ (a : NumSet). leastCost (problemOf ws) t a < NO_RUN) same (value .serves less);
+          serves = subst (λ (a : NumSet). fullLeast (problemOf ws) t a < NO_RUN) same (value .serves less);
           least = subst (λ (a : NumSet). WeekLeast (problemOf ws) u t a v) same (value .least);
           small = value .small;
         }

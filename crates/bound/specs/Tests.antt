@@ -11,7 +11,7 @@ use Rattle.sums.specs.NumSet.{NumSet, has}
 use Rattle.model.specs.Problem.{Problem}
 use Rattle.model.specs.Domain.{permitted, startCount}
 use Rattle.model.specs.Schedule.{outIn}
-use Rattle.model.specs.Commitment.{leastCost, NO_RUN}
+use Rattle.model.specs.Commitment.{fullLeast, NO_RUN}
 use Rattle.model.specs.Plan.{Compatible}
 use Rattle.commitment.specs.Tally.{Tallies}
 use Rattle.blame.specs.Closed.{Closed}
@@ -51,7 +51,7 @@ pub record WeekShuts (p : Problem) (a : NumSet) (j t b : ℕ) : Type 0 where
 -- week t holds with unit j out as well, and is worth at least v
 pub record WeekHolds (p : Problem) (u : ℕ → ℕ → ℕ) (a : NumSet) (j t v : ℕ) : Type 0 where
   pub compatible : Compatible p (joined a j)
-  pub serves : leastCost p t (joined a j) < NO_RUN
+  pub serves : fullLeast p t (joined a j) < NO_RUN
   pub least : WeekLeast p u t (joined a j) v
   pub small : v ≤ NO_RUN
 

@@ -1,4 +1,4 @@
--- Formula (9): a cell's cost from the row that its state names, and the sums over units and weeks.
+-- Formula (9): a cell's cost, OFF from its own figure, else from the row that its state names, and the sums over units and weeks.
 -- Assumes nothing.
 use Prim.Native.Nat.{ℕ, zero, suc, _≤_, _<_}
 use mathlib.Core.Path.{_≡_, refl, _∙_, ap}
@@ -42,7 +42,7 @@ module _ (ws : List ℕ) (l : Layout) (t i : ℕ) (f : Filed ws l) (ht : t < l .
 
   -- the entry is the cost of a unit in that state
   entry-costs : (s : ℕ) → (s ≡ 0 → ⊥) → s ≤ 2
-      → valueOf (getD (named s) i 0) ≡ if (eqb s 2) (problemOf ws .maint t i) (if (eqb s 1) (problemOf ws .running t i) 0)
+      → valueOf (getD (named s) i 0) ≡ if (eqb s 2) (problemOf ws .maint t i) (if (eqb s 1) (problemOf ws .running t i) (problemOf ws .off t i))
   unfolding tableFor
   entry-costs zero n h = absurd (n refl)
   entry-costs (suc zero) n h = running-entry ws l f t i ht hi
@@ -50,10 +50,10 @@ module _ (ws : List ℕ) (l : Layout) (t i : ℕ) (f : Filed ws l) (ht : t < l .
   entry-costs (suc (suc (suc s))) n h = absurd (omega arith)
 
 module _ (ws g : List ℕ) (l : Layout) (t i s : ℕ) (same : s ≡ cell (l .units) g t i) where
-  -- OFF costs nothing
-  pub off-costs : s ≡ 0 → 0 ≡ charge (problemOf ws) (cell (l .units) g) t i
+  -- OFF costs what the file says of it
+  pub off-costs : (r : ℕ) → s ≡ 0 → r ≡ problemOf ws .off t i → r ≡ charge (problemOf ws) (cell (l .units) g) t i
   unfolding charge isMaint isOn
-  off-costs e = rw (← same, e)
+  off-costs r e is = rw (← same, e) is
 
   -- any other state what its row says
   pub state-costs : (row : List ℕ) (r : ℕ) → Stated ws g l → t < l .weeks → i < l .units → (s ≡ 0 → ⊥)

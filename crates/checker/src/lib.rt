@@ -28,7 +28,7 @@ pub enum Judgement {
 
 // ---- formula (9)
 
-// Week t's row of the table of costs that a state names.
+// Week t's row of the table of costs that a state names, MAINT or ON.
 fn row_for<'a>(words: &'a [u32], l: Layout, t: usize, state: u8) -> &'a [u32]
     requires { ⌜ Filed (now words) l ⌝ }
     requires { ⌜ t < l .weeks ⌝ }
@@ -39,7 +39,7 @@ fn row_for<'a>(words: &'a [u32], l: Layout, t: usize, state: u8) -> &'a [u32]
     instance::cost_row(maints, runnings, l.units, t, state)
 }
 
-// What unit i costs in week t: OFF nothing, any other state what its row says.
+// What unit i costs in week t: OFF its own figure, since a file may have no table of OFF costs, any other state what its row says.
 fn cell_cost(words: &[u32], grid: &[u8], l: Layout, t: usize, i: usize) -> Euro
     requires { ⌜ Stated (now words) (now grid) l ⌝ }
     requires { ⌜ (t < l .weeks) × (i < l .units) ⌝ }
@@ -47,7 +47,7 @@ fn cell_cost(words: &[u32], grid: &[u8], l: Layout, t: usize, i: usize) -> Euro
 {
     let state = rules::state(grid, l, t, i);
     if state == 0 {
-        return Euro(0);
+        return instance::off_cost(words, l, t, i);
     }
     let row = row_for(words, l, t, state);
     Euro(instance::value_of(row[i]) as u64)

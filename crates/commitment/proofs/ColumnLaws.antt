@@ -1,6 +1,6 @@
 -- A table of 16 places filled one by one: what it holds so far, and how large.
 -- Assumes nothing.
-use Prim.Native.Nat.{ℕ, _+_, _*_, _^_, _≤_, _<_}
+use Prim.Native.Nat.{ℕ, _+_, _*_, _-_, _^_, _≤_, _<_}
 use mathlib.Core.Path.{_≡_, subst}
 use mathlib.Core.List.{List}
 use native.Mathlib.Decide.{ℕ-discrete}
@@ -15,8 +15,8 @@ use Rattle.sums.proofs.LoopLaws.{zeros-at, place-next}
 use Rattle.model.specs.declared.Layout.{Layout}
 use Rattle.model.specs.Words.{problemOf}
 use Rattle.instance.specs.Filed.{Filed}
-use Rattle.cover.specs.Tables.{entry, Caps, Weights}
-use Rattle.commitment.specs.Score.{weightOf, Column}
+use Rattle.cover.specs.Tables.{entry, MOST_WEIGHT, Caps, Weights}
+use Rattle.commitment.specs.Score.{scored, weightOf, Column}
 
 -- nothing yet
 pub column-start : (f : ℕ → ℕ) (xs : List ℕ) → Column 0 f xs
@@ -46,8 +46,8 @@ module _ (ws : List ℕ) (l : Layout) (xs : List ℕ) (k v : ℕ) (f : Filed ws 
   caps-next c m = record { most = λ i. set-most xs k v 1000000 i (omega (arith, f .units-most)) (c .most i) m }
 
   -- one more weight
-  pub weights-next : Weights xs → v ≤ 17179869184 → Weights (set xs k v)
-  weights-next c m = record { most = λ i. set-most xs k v 17179869184 i (omega (arith, f .units-most)) (c .most i) m }
+  pub weights-next : Weights xs → v ≤ MOST_WEIGHT → Weights (set xs k v)
+  weights-next c m = record { most = λ i. set-most xs k v MOST_WEIGHT i (omega (arith, f .units-most)) (c .most i) m }
 
   -- one more place
   pub column-next : (g : ℕ → ℕ) → Column k g xs → v ≡ g k → Column (k + 1) g (set xs k v)
@@ -79,8 +79,8 @@ number-most ws l k a f h e =
     omega arith
 
 -- one more weight, as the code makes it
-pub weight-next : (ws : List ℕ) (l : Layout) (xs : List ℕ) (t k c a v : ℕ) → Filed ws l → length xs ≡ 16 → k < l .units
-    → Column k (weightOf (problemOf ws) t) xs → c ≡ problemOf ws .running t k → a ≡ power k → v ≡ c * 65536 + a
+pub weight-next : (ws : List ℕ) (l : Layout) (xs : List ℕ) (t k c o a v : ℕ) → Filed ws l → length xs ≡ 16 → k < l .units
+    → Column k (weightOf (problemOf ws) t) xs → c ≡ problemOf ws .running t k → o ≡ problemOf ws .off t k → a ≡ power k → v ≡ scored (c - o) a
     → Column (k + 1) (weightOf (problemOf ws) t) (set xs k v)
 unfolding weightOf
-weight-next ws l xs t k c a v f long h m e n is = column-next ws l xs k v f long h (weightOf (problemOf ws) t) m (rw (← e, ← n) is)
+weight-next ws l xs t k c o a v f long h m e d n is = column-next ws l xs k v f long h (weightOf (problemOf ws) t) m (rw (← e, ← d, ← n) is)

@@ -1,8 +1,8 @@
 -- The least score is the cheapest run's, and tells its number and its cost; where it stands for none, there is no run.
 -- Assumes nothing.
-use Prim.Native.Nat.{ℕ, zero, suc, _+_, _*_, _/_, _%_, _^_, _≤_, _<_}
+use Prim.Native.Nat.{ℕ, _+_, _*_, _-_, _^_, _≤_, _<_}
 use mathlib.Core.Path.{_≡_, refl, sym, _∙_, ap, subst}
-use mathlib.Core.Bool.{Bool, true, false, not}
+use mathlib.Core.Bool.{Bool, true, false, _||_}
 use mathlib.Core.List.{List}
 use native.Mathlib.Nat.{mul-le-mul-right}
 use native.Mathlib.Decide.{decLt}
@@ -10,183 +10,205 @@ use native.Mathlib.Omega.{arith}
 use lib.Pow.{pow-mono}
 use borrow.Author.Tests.{ltb-true}
 use Rattle.sums.specs.Logic.{if}
-use Rattle.sums.specs.Sum.{sumTo}
-use Rattle.sums.specs.NumSet.{NumSet, pick, away, power, numberOf, has}
-use Rattle.sums.proofs.LogicLaws.{true-false, not-of, not-so}
-use Rattle.sums.proofs.NumSetLaws.{sum-over, pick-agree, number-below, number-has, number-own}
+use Rattle.sums.specs.NumSet.{NumSet, parts, away, power, numberOf, has}
+use Rattle.sums.proofs.SumLaws.{sum-at-most, sum-same}
+use Rattle.sums.proofs.NumSetLaws.{number-own}
 use Rattle.model.specs.declared.Layout.{Layout}
 use Rattle.model.specs.Problem.{Problem}
 use Rattle.model.specs.Rules.{output}
 use Rattle.model.specs.Words.{problemOf}
-use Rattle.model.specs.Commitment.{runCost, runBefore, Serves, Cheapest, NoRun, NO_RUN, leastCost}
-use Rattle.model.proofs.CommitmentLaws.{least-of, least-none, least-bounded, least-fewer}
+use Rattle.model.specs.Commitment.{lineCost, runCost, fullCost, offCost, runBefore, Serves, Cheapest, NoRun, NO_RUN, fullLeast}
+use Rattle.model.proofs.CommitmentLaws.{run-full, full-of, full-none, full-bounded}
 use Rattle.model.proofs.FileLaws.{ranged}
 use Rattle.instance.specs.Filed.{Filed}
 use Rattle.instance.proofs.FiledLaws.{weeks-are, units-are}
-use Rattle.cover.specs.Cover.{Covers, Reached, UNCOVERED, Least}
+use Rattle.cover.specs.Cover.{UNCOVERED, Least}
 use Rattle.cover.specs.Tables.{entry}
-use Rattle.cover.proofs.CoverLaws.{least-agree}
-use Rattle.commitment.specs.Score.{weightOf, scoreOf, LeastScore, Column}
+use Rattle.cover.proofs.CoverLaws.{least-agree, least-free}
+use Rattle.commitment.specs.Score.{SCALE, scored, costIn, numberIn, scoreOf, weightOf, thrifty, ThriftyRun, decided, LeastWeight, Scored, LeastScore, Column}
+use Rattle.commitment.proofs.ChoiceLaws.{weightFor, scoreFor, term, score-sum, base, least-below, reached-scored}
+use Rattle.commitment.proofs.ThriftyLaws.{thrifty-none, thrifty-output, thrifty-decided, thrifty-small}
+use Rattle.commitment.proofs.LineLaws.{full-nobody}
 
-module _ (p : Problem) (t : ℕ) where
-  -- ---- scores as sums of weights
+module _ (p : Problem) (t : ℕ) (few : p .units ≤ 16) where
+  tie-small : (i : ℕ) → i < p .units → power i ≤ 65536
+  unfolding power
+  tie-small i l = let s : i ≤ 15 = omega arith in let m : 2 ^ i ≤ 2 ^ 15 = pow-mono s in omega arith
 
-  weight-sum : (n : ℕ) (z : NumSet) → sumTo n (pick z (weightOf p t)) ≡ sumTo n (pick z (p .running t)) * 65536 + numberOf n z
-  unfolding sumTo pick numberOf weightOf
-  weight-sum zero z = refl
-  weight-sum (suc n) z = by (z n) (weight-sum n z)
-    where
-      by : (b : Bool) → sumTo n (pick z (weightOf p t)) ≡ sumTo n (pick z (p .running t)) * 65536 + sumTo n (pick z power)
-          → sumTo n (pick z (weightOf p t)) + if b (p .running t n * 65536 + power n) 0
-          ≡ (sumTo n (pick z (p .running t)) + if b (p .running t n) 0) * 65536 + (sumTo n (pick z power) + if b (power n) 0)
-      by true e = omega arith
-      by false e = omega arith
+  number-small : (r : ℕ) → r < 2 ^ p .units → r < 65536
+  number-small r h = let m : 2 ^ p .units ≤ 2 ^ 16 = pow-mono few in omega arith
 
-  score-sum : (r : ℕ) → r < 2 ^ p .units → sumTo (p .units) (pick (has r) (weightOf p t)) ≡ scoreOf p t r
-  unfolding scoreOf runCost
-  score-sum r h = omega (arith, weight-sum (p .units) (has r), number-own (p .units) r h)
+  -- a score in the general form
+  score-own : (r : ℕ) → r < 2 ^ p .units → scoreFor p SCALE power t r ≡ scoreOf p t r
+  unfolding scoreFor scoreOf numberOf
+  score-own r h = omega (arith, number-own (p .units) r h)
 
-  -- ---- runs as covers
+  module _ (out : NumSet) where
+    -- the score of the thrifty units
+    base-score : (r : ℕ) → ThriftyRun p t out r → base p SCALE power t out tie-small ≡ scoreOf p t r
+    base-score r run =
+        sym (sum-same (p .units) (term p SCALE power t (has r)) (term p SCALE power t (thrifty p t out))
+        (λ i l. ap (λ (b : Bool). if b (p .running t i * SCALE + power i) (p .off t i * SCALE)) (run .has-them i l)))
+        ∙ sym (score-sum p SCALE power t r) ∙ score-own r (run .units)
 
-  serves-covers : (out r : ℕ) → Serves p t (has out) r → Covers (away (has out)) (p .capacity t) (p .units) (p .demand t) (has r)
-  unfolding output away
-  serves-covers out r s = record {
-    allowed = λ i l e. not-of (has out i) (not-so (has out i) (λ o. true-false (sym e ∙ s .run .free i l o)));
-    enough = s .meets;
-  }
+    -- with the least weight it is the least score
+    weight-below : (v : ℕ) → LeastWeight p t out v → (q : ℕ) → Serves p t out q → base p SCALE power t out tie-small + v ≤ scoreOf p t q
+    unfolding weightOf weightFor
+    weight-below v l q s = omega (arith, least-below p SCALE power t out tie-small v l q s, score-own q (s .run .units))
 
-  -- a run with this score
-  record Scored (out v : ℕ) : Type 0 where
-    run : ℕ
-    serves : Serves p t (has out) run
-    score : v ≡ scoreOf p t run
+    weight-reached : (v : ℕ) → LeastWeight p t out v → v < UNCOVERED → Scored p t out (base p SCALE power t out tie-small + v)
+    unfolding weightOf weightFor
+    weight-reached v l h =
+        let c = reached-scored p SCALE power t out tie-small v (l .candidate .reached h) in
+        record { run = c .run; serves = c .serves; score = c .score ∙ score-own (c .run) (c .serves .run .units) }
 
-  reached-scored : (out v : ℕ) → Reached (away (has out)) (p .capacity t) (weightOf p t) (p .units) (p .demand t) 0 v → Scored out v
-  unfolding output away
-  reached-scored out v r = record {
-    run = own;
-    serves = record {
-      run = record {
-        units = number-below (p .units) (r .set);
-        free = λ i l o. not-so (has own i) (λ e. true-false (sym (r .covers .allowed i l (sym (number-has (p .units) (r .set) i l) ∙ e)) ∙ ap not o));
-      };
-      meets = omega (arith, r .covers .enough, agree (p .capacity t));
-    };
-    score = omega (arith, r .weight, agree (weightOf p t), score-sum own (number-below (p .units) (r .set)));
-  }
-    where
-      own : ℕ
-      own = numberOf (p .units) (r .set)
-
-      agree : (f : ℕ → ℕ) → sumTo (p .units) (pick (has own) f) ≡ sumTo (p .units) (pick (r .set) f)
-      agree f = pick-agree (p .units) (r .set) (has own) f (number-has (p .units) (r .set))
-
-  -- ---- the least score
-
-  module _ (few : p .units ≤ 16) where
-    number-small : (r : ℕ) → r < 2 ^ p .units → r < 65536
-    number-small r h = let m : 2 ^ p .units ≤ 2 ^ 16 = pow-mono few in omega arith
-
-    -- no run has a smaller one
-    least-below : (out v : ℕ) → LeastScore p t out v → (q : ℕ) → Serves p t (has out) q → v ≤ runCost p t q * 65536 + q
-    unfolding scoreOf
-    least-below out v l q s = omega (arith, l .least (has q) (serves-covers out q s), score-sum q (s .run .units))
-
-    scored-cheapest : (out v : ℕ) → LeastScore p t out v → (s : Scored out v) → Cheapest p t (has out) (s .run)
+    scored-cheapest : (v : ℕ) → LeastScore p t out v → (s : Scored p t out v) → Cheapest p t out (s .run)
     unfolding scoreOf runBefore
-    scored-cheapest out v l s = record {
+    scored-cheapest v l s = record {
       serves = s .serves;
-      least = λ q a. omega (arith, s .score, small, least-below out v l q a, number-small q (a .run .units));
-      first = λ q a e. omega (arith, s .score, small, least-below out v l q a, ltb-true q (s .run) e);
+      least = λ q a. omega (arith, s .score, small, l .least q a, number-small q (a .run .units), mine, run-full p t out q (a .run));
+      first = λ q a e. omega (arith, s .score, small, l .least q a, ltb-true q (s .run) e, mine, run-full p t out q (a .run));
     }
       where
-        small : s .run < 65536
+        small : s .run < SCALE
         small = number-small (s .run) (s .serves .run .units)
+
+        mine : fullCost p t (s .run) ≡ runCost p t out (s .run) + offCost p t out
+        mine = run-full p t out (s .run) (s .serves .run)
 
     -- where it is a score at all, it is the cheapest run's and tells its number and its cost
-    least-tells : (out v : ℕ) → LeastScore p t out v → v < UNCOVERED → Cheapest p t (has out) (v % 65536) × (v / 65536 ≡ runCost p t (v % 65536))
+    least-tells : (v : ℕ) → LeastScore p t out v → v < UNCOVERED
+        → Cheapest p t out (numberIn v) × ((costIn v ≡ fullCost p t (numberIn v)) × (costIn v ≡ runCost p t out (numberIn v) + offCost p t out))
     unfolding scoreOf
-    least-tells out v l h =
-        subst (λ (r : ℕ). Cheapest p t (has out) r × (v / 65536 ≡ runCost p t r)) number
-        (scored-cheapest out v l s, omega (arith, s .score, small))
+    least-tells v l h =
+        subst (λ (r : ℕ). Cheapest p t out r × ((costIn v ≡ fullCost p t r) × (costIn v ≡ runCost p t out r + offCost p t out))) number
+        (scored-cheapest v l s, (cost, cost ∙ run-full p t out (s .run) (s .serves .run)))
       where
-        s : Scored out v
-        s = reached-scored out v (l .candidate .reached h)
+        s : Scored p t out v
+        s = l .reached h
 
-        small : s .run < 65536
+        small : s .run < SCALE
         small = number-small (s .run) (s .serves .run .units)
 
-        number : s .run ≡ v % 65536
+        number : s .run ≡ numberIn v
         number = omega (arith, s .score, small)
 
+        cost : costIn v ≡ fullCost p t (s .run)
+        cost = omega (arith, s .score, small)
+
     -- else there is no run, where every run costs less than NO_RUN
-    least-none-left : (out v : ℕ) → ((q : ℕ) → Serves p t (has out) q → runCost p t q < NO_RUN) → LeastScore p t out v → UNCOVERED ≤ v
-        → NoRun p t (has out)
-    least-none-left out v cheap l h q s = omega (arith, least-below out v l q s, cheap q s, number-small q (s .run .units))
+    least-none-left : (v : ℕ) → ((q : ℕ) → Serves p t out q → fullCost p t q < NO_RUN) → LeastScore p t out v → UNCOVERED ≤ v → NoRun p t out
+    unfolding scoreOf
+    least-none-left v cheap l h q s = omega (arith, l .least q s, cheap q s, number-small q (s .run .units))
 
 -- ---- the same of a file's week, as the code has it
 
--- what a run of an accepted file costs at most
-pub run-small : (ws : List ℕ) (l : Layout) (t : ℕ) → Filed ws l → t < l .weeks → (q : ℕ) → runCost (problemOf ws) t q ≤ 4000000
-unfolding runCost
+-- what a run of an accepted file costs at most, all other units OFF
+pub run-small : (ws : List ℕ) (l : Layout) (t : ℕ) → Filed ws l → t < l .weeks → (q : ℕ) → fullCost (problemOf ws) t q ≤ 4000000
+unfolding fullCost lineCost parts
 run-small ws l t f h q =
-    let p = problemOf ws in
-    let g = ranged ws (f .passed) in
-    let b = sum-over (p .units) 250000 (has q) (p .running t) (λ i d. g .running-most t i (omega (arith, weeks-are ws l f)) d) in
-    omega (arith, mul-le-mul-right 250000 (g .units-most))
+    let b = sum-at-most (p .units) 250000 (parts (has q) (p .running t) (p .off t)) (λ i d. go i d (has q i)) in
+    omega (arith, mul-le-mul-right 250000 (ranged ws (f .passed) .units-most))
+  where
+    p : Problem
+    p = problemOf ws
 
-module _ (ws : List ℕ) (l : Layout) (t out v : ℕ) (f : Filed ws l) where
+    week : t < problemOf ws .weeks
+    week = omega (arith, weeks-are ws l f)
+
+    go : (i : ℕ) → i < problemOf ws .units → (b : Bool) → if b (problemOf ws .running t i) (problemOf ws .off t i) ≤ 250000
+    go i d true = ranged ws (f .passed) .running-most t i week d
+    go i d false = ranged ws (f .passed) .off-most t i week d
+
+-- so it does by itself, where it serves
+pub served-small : (ws : List ℕ) (l : Layout) (t : ℕ) (out : NumSet) → Filed ws l → t < l .weeks → (q : ℕ) → Serves (problemOf ws) t out q
+    → runCost (problemOf ws) t out q ≤ 4000000
+served-small ws l t out f h q s = omega (arith, run-small ws l t f h q, run-full (problemOf ws) t out q (s .run))
+
+module _ (ws : List ℕ) (l : Layout) (t out : ℕ) (f : Filed ws l) where
   few : problemOf ws .units ≤ 16
   few = ranged ws (f .passed) .units-most
 
-  -- the cover of least weight has the least score
-  pub score-least : (caps weights : List ℕ) (need : ℕ) → Column (l .units) (problemOf ws .capacity t) caps
-      → Column (l .units) (weightOf (problemOf ws) t) weights
-      → need ≡ problemOf ws .demand t → Least (away (has out)) (entry caps) (entry weights) (l .units) need v → LeastScore (problemOf ws) t out v
-  score-least caps weights need a b e c =
+  -- the cover of least weight
+  pub weight-least : (thrifty both need v : ℕ) (caps weights : List ℕ) → ThriftyRun (problemOf ws) t (has out) thrifty
+      → Column (l .units) (problemOf ws .capacity t) caps → Column (l .units) (weightOf (problemOf ws) t) weights
+      → need ≡ problemOf ws .demand t - output (problemOf ws) t (has thrifty) → ((k : ℕ) → has both k ≡ (has out k || has thrifty k))
+      → Least (away (has both)) (entry caps) (entry weights) (l .units) need v → LeastWeight (problemOf ws) t (has out) v
+  weight-least r both need v caps weights run a b e join c =
       let p = problemOf ws in
-      subst (λ (u : ℕ). Least (away (has out)) (p .capacity t) (weightOf p t) u (p .demand t) v) (sym (units-are ws l f))
-      (subst (λ (n : ℕ). Least (away (has out)) (p .capacity t) (weightOf p t) (l .units) n v) e
-      (least-agree (away (has out)) (entry caps) (p .capacity t) (entry weights) (weightOf p t) (l .units) need v (a .holds) (b .holds) c))
+      let left = p .demand t - output p t (thrifty p t (has out)) in
+      let n : need ≡ left = e ∙ ap (λ (z : ℕ). p .demand t - z) (thrifty-output p t r (has out) run) in
+      subst (λ (u : ℕ). Least (away (decided p t (has out))) (p .capacity t) (weightOf p t) u left v) (sym (units-are ws l f))
+      (subst (λ (z : ℕ). Least (away (decided p t (has out))) (p .capacity t) (weightOf p t) (l .units) z v) n
+      (least-free (away (has both)) (away (decided p t (has out))) (p .capacity t) (weightOf p t) (l .units) need v
+      (λ i d. thrifty-decided p t r (has out) run both out refl join i (omega (arith, units-are ws l f)))
+      (least-agree (away (has both)) (entry caps) (p .capacity t) (entry weights) (weightOf p t) (l .units) need v (a .holds) (b .holds) c)))
 
-  module _ (h : t < l .weeks) (m : LeastScore (problemOf ws) t out v) where
+  -- the number of the thrifty units fits
+  pub thrifty-fits : (r : ℕ) → ThriftyRun (problemOf ws) t (has out) r → r < 65536
+  thrifty-fits r run = thrifty-small (problemOf ws) t r (has out) run few
+
+  -- with their score the least weight is the least score
+  pub score-least : (thrifty least cost s r : ℕ) → ThriftyRun (problemOf ws) t (has out) thrifty → t < l .weeks
+      → LeastWeight (problemOf ws) t (has out) least → least < UNCOVERED → cost ≡ fullCost (problemOf ws) t thrifty → s ≡ scored cost thrifty
+      → r ≡ s + least → LeastScore (problemOf ws) t (has out) r
+  unfolding scoreOf
+  score-least n least cost s r run h w low ec es er =
+      let p = problemOf ws in
+      let sum : base p SCALE power t (has out) (tie-small p t few) + least ≡ r = omega (arith, base-score p t few (has out) n run) in
+      let reached = subst (Scored p t (has out)) sum (weight-reached p t few (has out) least w low) in
+      record {
+        most = omega (arith, reached .score, run-small ws l t f h (reached .run), number-small p t few (reached .run) (reached .serves .run .units));
+        reached = λ _. reached;
+        least = λ q a. omega (arith, weight-below p t few (has out) least w q a, sum);
+      }
+
+  -- without OFF costs it is the least score by itself
+  pub score-plain : (least : ℕ) → t < l .weeks → LeastWeight (problemOf ws) t (has out) least → least < UNCOVERED → l .pairs ≤ l .offs
+      → LeastScore (problemOf ws) t (has out) least
+  score-plain least h w low none =
+      score-least 0 least 0 0 least (thrifty-none ws l t (has out) f none) h w low (full-nobody ws l t f none) refl (omega arith)
+
+  -- or stands for none
+  pub score-none : (least : ℕ) → LeastWeight (problemOf ws) t (has out) least → UNCOVERED ≤ least → LeastScore (problemOf ws) t (has out) UNCOVERED
+  score-none least w high = record {
+    most = omega arith;
+    reached = λ h. absurd (omega arith);
+    least = λ q a. omega (arith, weight-below (problemOf ws) t few (has out) least w q a);
+  }
+
+  module _ (v : ℕ) (h : t < l .weeks) (m : LeastScore (problemOf ws) t (has out) v) where
     -- the cheapest run
-    pub found-run : v < 17592186044416 → Cheapest (problemOf ws) t (has out) (v % 65536)
-    found-run b = least-tells (problemOf ws) t few out v m b .0
+    pub found-run : (r : ℕ) → v < UNCOVERED → r ≡ numberIn v → Cheapest (problemOf ws) t (has out) r
+    found-run r b e = subst (Cheapest (problemOf ws) t (has out)) (sym e) (least-tells (problemOf ws) t few (has out) v m b .0)
 
-    -- its cost
-    pub found-run-cost : v < 17592186044416 → v / 65536 ≡ runCost (problemOf ws) t (v % 65536)
-    found-run-cost b = least-tells (problemOf ws) t few out v m b .1
+    -- its cost, without what the units out would cost OFF
+    pub found-run-cost : (r cost off c : ℕ) → v < UNCOVERED → r ≡ numberIn v → cost ≡ costIn v → off ≡ offCost (problemOf ws) t (has out)
+        → c ≡ cost - off → c ≡ runCost (problemOf ws) t (has out) r
+    found-run-cost r cost off c b er ec eo e =
+        let told = least-tells (problemOf ws) t few (has out) v m b .1 .1 in
+        omega (arith, told, ap (runCost (problemOf ws) t (has out)) er)
 
     -- or that there is none
-    pub found-none : 17592186044416 ≤ v → NoRun (problemOf ws) t (has out)
-    found-none b = least-none-left (problemOf ws) t few out v (λ q s. omega (arith, run-small ws l t f h q)) m b
+    pub found-none : UNCOVERED ≤ v → NoRun (problemOf ws) t (has out)
+    found-none b = least-none-left (problemOf ws) t few (has out) v (λ q s. omega (arith, run-small ws l t f h q)) m b
 
     -- either way the score tells the least cost
-    pub found-cost : v / 65536 ≡ leastCost (problemOf ws) t (has out)
-    found-cost = by (decLt v 17592186044416)
+    pub found-cost : (c : ℕ) → c ≡ costIn v → c ≡ fullLeast (problemOf ws) t (has out)
+    found-cost c e = e ∙ by (decLt v UNCOVERED)
       where
-        by : Dec (v < 17592186044416) → v / 65536 ≡ leastCost (problemOf ws) t (has out)
-        by (yes b) = found-run-cost b ∙ sym (least-of (problemOf ws) t (has out) (v % 65536) (found-run b))
+        by : Dec (v < UNCOVERED) → costIn v ≡ fullLeast (problemOf ws) t (has out)
+        by (yes b) =
+            least-tells (problemOf ws) t few (has out) v m b .1 .0
+            ∙ sym (full-of (problemOf ws) t (has out) (numberIn v) (found-run (numberIn v) b refl))
         by (no b) =
             let u : UNCOVERED ≤ v = omega arith in
-            omega (arith, m .candidate .most, least-none (problemOf ws) t (has out) (found-none u))
+            omega (arith, m .most, full-none (problemOf ws) t (has out) (found-none u))
 
     -- which fits a word of 32 bits
-    pub cost-small : v / 65536 ≤ 268435456
-    cost-small = omega (arith, m .candidate .most)
+    pub cost-small : (c : ℕ) → c ≡ costIn v → c ≤ 268435456
+    cost-small c e = omega (arith, m .most)
 
--- ---- what a week's least cost is at most, and with fewer units out
-
-module _ (ws : List ℕ) (l : Layout) (t : ℕ) (f : Filed ws l) (h : t < l .weeks) where
-  run-below : (q : ℕ) → runCost (problemOf ws) t q ≤ NO_RUN
-  run-below q = omega (arith, run-small ws l t f h q)
-
-  -- never more than what stands for none
-  pub least-small : (out : NumSet) → leastCost (problemOf ws) t out ≤ 268435456
-  least-small out = least-bounded (problemOf ws) t out (λ q s. run-below q)
-
-  -- with fewer units out no dearer
-  pub least-grows : (a b : NumSet) → ((i : ℕ) → i < problemOf ws .units → a i ≡ true → b i ≡ true)
-      → leastCost (problemOf ws) t a ≤ leastCost (problemOf ws) t b
-  least-grows a b fewer = least-fewer (problemOf ws) t a b fewer (λ q s. run-below q)
+-- a week's least cost is never more than what stands for none
+pub least-small : (ws : List ℕ) (l : Layout) (t : ℕ) → Filed ws l → t < l .weeks → (out : NumSet) → fullLeast (problemOf ws) t out ≤ 268435456
+least-small ws l t f h out = full-bounded (problemOf ws) t out (λ q s. omega (arith, run-small ws l t f h q))

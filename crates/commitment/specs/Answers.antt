@@ -11,4 +11,4 @@ use Rattle.commitment.specs.declared.Found.the-variants.{Nothing, Run}
 -- with the units of `out` out no run meets the demand; or r is the cheapest that does, and c is its cost
 abbrev pub Answers : Problem → ℕ → NumSet → Found → Type 0
 Answers p t out Nothing = NoRun p t out
-Answers p t out (Run r c) = Cheapest p t out r × (c .0 ≡ runCost p t r)
+Answers p t out (Run r c) = Cheapest p t out r × (c .0 ≡ runCost p t out r)

@@ -294,3 +294,20 @@ least-agree free f g v w k need r a b l = record {
   };
   least = λ z c. omega (arith, l .least z (covers-agree free z g f k need (λ i h. sym (a i h)) c), terms-agree z v w k b);
 }
+
+-- sets of free units that agree below k, too
+pub least-free : (free other : NumSet) (f v : ℕ → ℕ) (k need r : ℕ) → ((i : ℕ) → i < k → free i ≡ other i)
+    → Least free f v k need r → Least other f v k need r
+least-free free other f v k need r same l = record {
+  candidate = record {
+    most = l .candidate .most;
+    reached = λ h.
+        let c = l .candidate .reached h in
+        record {
+          set = c .set;
+          covers = record { allowed = λ i d e. sym (same i d) ∙ c .covers .allowed i d e; enough = c .covers .enough };
+          weight = c .weight;
+        };
+  };
+  least = λ z c. l .least z (record { allowed = λ i d e. same i d ∙ c .allowed i d e; enough = c .enough });
+}

@@ -17,7 +17,7 @@ use Rattle.sums.proofs.LogicLaws.{true-false, and-right, and-last-false}
 use Rattle.sums.proofs.LoopLaws.{place-next}
 use Rattle.sums.proofs.NumSetLaws.{pick-most, sum-over, sum-subset}
 use Rattle.cover.specs.Cover.{UNCOVERED, Candidate, settled, coverTo}
-use Rattle.cover.specs.Tables.{entry, Caps, Weights, SumsTo, surplus, spared, Ready}
+use Rattle.cover.specs.Tables.{entry, MOST_WEIGHT, MOST_SURPLUS, MOST_GAIN, Caps, Weights, SumsTo, surplus, spared, Ready}
 use Rattle.cover.proofs.CoverLaws.{cover-dull, cover-passed, cover-taken}
 
 -- ---- the cuts
@@ -81,21 +81,21 @@ unfolding entry
 weigh-fits caps weights i j a b = omega (arith, mul-le-mul (b .most i) (a .most j))
 
 -- rate and a capacity
-pub rate-fits : (caps : List ℕ) (rate i : ℕ) → Caps caps → rate ≤ 17179869184 → rate * getD caps i 0 < 18446744073709551616
+pub rate-fits : (caps : List ℕ) (rate i : ℕ) → Caps caps → rate ≤ MOST_WEIGHT → rate * getD caps i 0 < 18446744073709551616
 unfolding entry
 rate-fits caps rate i a l = omega (arith, mul-le-mul l (a .most i))
 
 -- a quotient of a weight
-pub ratio-most : (weights : List ℕ) (i r : ℕ) → Weights weights → r ≤ getD weights i 0 → r ≤ 17179869184
+pub ratio-most : (weights : List ℕ) (i r : ℕ) → Weights weights → r ≤ getD weights i 0 → r ≤ MOST_WEIGHT
 unfolding entry
 ratio-most weights i r w h = omega (arith, w .most i)
 
 -- rate and what is needed
-pub need-fits : (rate need : ℕ) → rate ≤ 17179869184 → need ≤ 16000000 → rate * need < 18446744073709551616
+pub need-fits : (rate need : ℕ) → rate ≤ MOST_WEIGHT → need ≤ 16000000 → rate * need < 18446744073709551616
 need-fits rate need l n = omega (arith, mul-le-mul l n)
 
 -- and those taken on top
-pub weight-fits : (rate need weight best : ℕ) → rate ≤ 17179869184 → need ≤ 16000000 → weight < best → best ≤ UNCOVERED
+pub weight-fits : (rate need weight best : ℕ) → rate ≤ MOST_WEIGHT → need ≤ 16000000 → weight < best → best ≤ UNCOVERED
     → weight + rate * need < 18446744073709551616
 weight-fits rate need weight best l n h b = omega (arith, mul-le-mul l n)
 
@@ -121,19 +121,19 @@ caps-below xs p u k s r a few l e t = omega (arith, term-most p (entry xs) 10000
 -- weights added
 pub weights-below : (xs : List ℕ) (p : NumSet) (u k s r : ℕ) → Weights xs → u ≤ 16 → k < u → s ≡ sumTo k (pick p (entry xs)) → r ≡ pick p (entry xs) k
     → s + r < 18446744073709551616
-weights-below xs p u k s r a few l e t = omega (arith, term-most p (entry xs) 17179869184 k s r (a .most) e t (omega arith))
+weights-below xs p u k s r a few l e t = omega (arith, term-most p (entry xs) MOST_WEIGHT k s r (a .most) e t (omega arith))
 
-surplus-small : (rate : ℕ) (caps weights : List ℕ) → Caps caps → rate ≤ 17179869184
-    → (i : ℕ) → surplus rate (entry caps) (entry weights) i ≤ 17179869184000000
+surplus-small : (rate : ℕ) (caps weights : List ℕ) → Caps caps → rate ≤ MOST_WEIGHT
+    → (i : ℕ) → surplus rate (entry caps) (entry weights) i ≤ MOST_SURPLUS
 unfolding surplus
 surplus-small rate caps weights a l i = omega (arith, mul-le-mul l (a .most i))
 
 -- surpluses added
-pub gains-fit : (rate : ℕ) (caps weights : List ℕ) (p : NumSet) (k s r : ℕ) → Caps caps → rate ≤ 17179869184
+pub gains-fit : (rate : ℕ) (caps weights : List ℕ) (p : NumSet) (k s r : ℕ) → Caps caps → rate ≤ MOST_WEIGHT
     → s ≡ sumTo k (pick p (surplus rate (entry caps) (entry weights))) → r ≡ pick p (surplus rate (entry caps) (entry weights)) k → k < 16
     → s + r < 18446744073709551616
 gains-fit rate caps weights p k s r a l e t h =
-    omega (arith, term-most p (surplus rate (entry caps) (entry weights)) 17179869184000000 k s r (surplus-small rate caps weights a l) e t h)
+    omega (arith, term-most p (surplus rate (entry caps) (entry weights)) MOST_SURPLUS k s r (surplus-small rate caps weights a l) e t h)
 
 -- ---- one unit's part
 
@@ -207,7 +207,7 @@ pub candidate-some : (caps weights : List ℕ) (out guess u need given weight : 
     → given ≡ sumTo u (pick (spared out guess) (entry caps)) → need ≤ given → weight ≡ sumTo u (pick (spared out guess) (entry weights))
     → Candidate (away (has out)) (entry caps) (entry weights) u need weight
 candidate-some caps weights out guess u need given weight w few a n b = record {
-  most = omega (arith, b, sum-most (spared out guess) (entry weights) 17179869184 u (w .most) few);
+  most = omega (arith, b, sum-most (spared out guess) (entry weights) MOST_WEIGHT u (w .most) few);
   reached = λ z. record {
     set = spared out guess;
     covers = record { allowed = λ i d. spared-free out guess i; enough = omega arith };
@@ -218,7 +218,7 @@ candidate-some caps weights out guess u need given weight w few a n b = record {
 -- ---- a turn of the walk
 
 -- the walk is lent all that it asks for
-pub ready : (out rate : ℕ) (caps weights room gain : List ℕ) → Caps caps → Weights weights → rate ≤ 17179869184
+pub ready : (out rate : ℕ) (caps weights room gain : List ℕ) → Caps caps → Weights weights → rate ≤ MOST_WEIGHT
     → SumsTo (away (has out)) (entry caps) 16 room → SumsTo (away (has out)) (surplus rate (entry caps) (entry weights)) 16 gain
     → Ready out rate caps weights room gain
 ready out rate caps weights room gain a w l r g = record { caps-fit = a; weights-fit = w; rate-most = l; rooms = r; gains = g }
@@ -230,11 +230,11 @@ module _ (out rate : ℕ) (caps weights room gain : List ℕ) (k need : ℕ) (y 
   need-small h = omega (arith, y .rooms .holds k l, sum-most (away (has out)) (entry caps) 1000000 k (y .caps-fit .most) l)
 
   -- what the free units yield
-  pub gain-small : getD gain k 0 ≤ 274877906944000000
+  pub gain-small : getD gain k 0 ≤ MOST_GAIN
   unfolding entry
   gain-small =
       let most = surplus-small rate caps weights (y .caps-fit) (y .rate-most) in
-      omega (arith, y .gains .holds k l, sum-most (away (has out)) (surplus rate (entry caps) (entry weights)) 17179869184000000 k most l)
+      omega (arith, y .gains .holds k l, sum-most (away (has out)) (surplus rate (entry caps) (entry weights)) MOST_SURPLUS k most l)
 
   -- no unit is left, and nothing is needed
   pub leaf : (weight best : ℕ) → k ≡ 0 → need ≤ getD room k 0 → weight < best

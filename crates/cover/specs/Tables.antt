@@ -16,9 +16,20 @@ entry xs i = getD xs i 0
 pub record Caps (xs : List ℕ) : Type 0 where
   pub most : (i : ℕ) → entry xs i ≤ 1000000
 
--- weights up to 2 ^ 34, which keeps every sum and product in a word of 64 bits
+-- 2 ^ 34: what a unit may weigh, which keeps every sum and product in a word of 64 bits
+abbrev pub MOST_WEIGHT : ℕ
+MOST_WEIGHT = 17179869184
+
+-- at such a rate for a kilogram a unit of 1,000,000 yields no more, and 16 of them
+abbrev pub MOST_SURPLUS : ℕ
+MOST_SURPLUS = 17179869184000000
+
+abbrev pub MOST_GAIN : ℕ
+MOST_GAIN = 274877906944000000
+
+-- weights as the choice can take them
 pub record Weights (xs : List ℕ) : Type 0 where
-  pub most : (i : ℕ) → entry xs i ≤ 17179869184
+  pub most : (i : ℕ) → entry xs i ≤ MOST_WEIGHT
 
 -- the places of a table up to n hold the sums of f over the free units below
 pub record SumsTo (free : NumSet) (f : ℕ → ℕ) (n : ℕ) (table : List ℕ) : Type 0 where
@@ -36,7 +47,7 @@ spared out guess i = has guess i && not (has out i)
 pub record Ready (out rate : ℕ) (caps weights room gain : List ℕ) : Type 0 where
   pub caps-fit : Caps caps
   pub weights-fit : Weights weights
-  pub rate-most : rate ≤ 17179869184
+  pub rate-most : rate ≤ MOST_WEIGHT
   -- what the free units below k give together
   pub rooms : SumsTo (away (has out)) (entry caps) 16 room
   -- what they yield together above their weights

@@ -7,23 +7,16 @@ ghost use lib.Dec.{leb};
 ghost use Rattle.sums.specs.Sum.{sumTo};
 ghost use Rattle.sums.specs.NumSet.{has, away, pick};
 ghost use Rattle.cover.specs.Cover.{UNCOVERED, Candidate, Least, coverTo};
-ghost use Rattle.cover.specs.Tables.{entry, Caps, Weights, SumsTo, surplus, spared, Ready};
+ghost use Rattle.cover.specs.Tables.{entry, MOST_WEIGHT, MOST_GAIN, Caps, Weights, SumsTo, surplus, spared, Ready};
+
+// 2^44: stands for the weight where nothing covers.
+pub const UNCOVERED: u64 = 17592186044416;
 
 // Advice on a cover: a rate, the weight to be charged for a kilogram, and a guess at the units, which may have units that are out. It decides the
 // time that is taken, and nothing else.
 struct Advice {
     rate: u64,
     guess: u32,
-}
-
-// What is still needed when more is given.
-fn less(need: Kilo, more: Kilo) -> Kilo
-    ensures { λ r. ⌜ r .0 ≡ need .0 - more .0 ⌝ }
-{
-    if need.0 < more.0 {
-        return Kilo(0);
-    }
-    Kilo(need.0 - more.0)
 }
 
 // a - b, 0 where b is larger.
@@ -83,7 +76,7 @@ fn lightest(caps: &[u64; 16], weights: &[u64; 16], used: u32) -> usize
 // Takes the units that are lightest for a kilogram until they give what is needed.
 fn advise(caps: &[u64; 16], weights: &[u64; 16], u: usize, out: u32, need: Kilo) -> Advice
     requires { ⌜ Caps (now caps) × Weights (now weights) ⌝ }
-    ensures { λ r. ⌜ r .rate ≤ 17179869184 ⌝ }
+    ensures { λ r. ⌜ r .rate ≤ MOST_WEIGHT ⌝ }
 {
     // The units out count as taken, so that none of them is; when the guess is weighed they are left out again.
     let mut guess = out;
@@ -99,7 +92,7 @@ fn advise(caps: &[u64; 16], weights: &[u64; 16], u: usize, out: u32, need: Kilo)
         }
         rate = ratio(weights[i], caps[i]);
         guess = sets::with(guess, i);
-        left = less(left, Kilo(caps[i]));
+        left = left.less(Kilo(caps[i]));
     }
     Advice { rate, guess }
 }
@@ -152,8 +145,7 @@ fn guessed(caps: &[u64; 16], weights: &[u64; 16], u: usize, out: u32, guess: u32
 {
     let given = guess_output(caps, u, out, guess);
     if given.0 < need.0 {
-        // 2^44 stands for no cover.
-        return 17592186044416;
+        return UNCOVERED;
     }
     guess_weight(weights, u, out, guess)
 }
@@ -188,7 +180,7 @@ fn rooms(caps: &[u64; 16], out: u32) -> [u64; 17]
 // What unit i yields above its weight where it is not out, at the rate for a kilogram.
 fn free_surplus(caps: &[u64; 16], weights: &[u64; 16], rate: u64, out: u32, i: usize) -> u64
     requires { ⌜ Caps (now caps) ⌝ }
-    requires { ⌜ (rate ≤ 17179869184) × (i < 16) ⌝ }
+    requires { ⌜ (rate ≤ MOST_WEIGHT) × (i < 16) ⌝ }
     ensures { λ r. ⌜ r ≡ pick (away (has out)) (surplus rate (entry (now (caps .entry))) (entry (now (weights .entry)))) i ⌝ }
 {
     if sets::has(out, i) {
@@ -200,7 +192,7 @@ fn free_surplus(caps: &[u64; 16], weights: &[u64; 16], rate: u64, out: u32, i: u
 // For each k, what the free units below k yield together above their weights.
 fn gains(caps: &[u64; 16], weights: &[u64; 16], rate: u64, out: u32) -> [u64; 17]
     requires { ⌜ Caps (now caps) ⌝ }
-    requires { ⌜ rate ≤ 17179869184 ⌝ }
+    requires { ⌜ rate ≤ MOST_WEIGHT ⌝ }
     ensures { λ r. ⌜ SumsTo (away (has out)) (surplus rate (entry (now (caps .entry))) (entry (now (weights .entry)))) 16 r ⌝ }
 {
     let mut gain: [u64; 17] = [0; 17];
@@ -217,7 +209,7 @@ fn gains(caps: &[u64; 16], weights: &[u64; 16], rate: u64, out: u32) -> [u64; 17
 // Whether no cover from here can get below the best. Charge the rate for every kilogram still needed: free units repay at most the gain, so the rest
 // of a cover weighs at least the rate times the need, less the gain.
 fn hopeless(rate: u64, gain: u64, need: Kilo, weight: u64, best: u64) -> bool
-    requires { ⌜ (rate ≤ 17179869184) × (gain ≤ 274877906944000000) × (need .0 ≤ 16000000) ⌝ }
+    requires { ⌜ (rate ≤ MOST_WEIGHT) × (gain ≤ MOST_GAIN) × (need .0 ≤ 16000000) ⌝ }
     requires { ⌜ (weight < best) × (best ≤ UNCOVERED) ⌝ }
     ensures { λ r. ⌜ r ≡ leb (best + gain) (weight + rate * need .0) ⌝ }
 {
@@ -271,7 +263,7 @@ fn walk(
     if sets::has(out, top) {
         return low;
     }
-    let rest = less(need, Kilo(caps[top]));
+    let rest = need.less(Kilo(caps[top]));
     walk(
         caps,
         weights,

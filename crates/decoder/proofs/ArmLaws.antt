@@ -4,7 +4,6 @@ use Prim.Native.Nat.{ℕ, _+_, _-_, _≤_, _<_}
 use mathlib.Core.Path.{_≡_, sym, _∙_}
 use native.Mathlib.Omega.{arith}
 use borrow.Author.Tests.{le-leb, lt-leb, eq-eqb, ne-eqb}
-use lib.Arith.{lt-one}
 use Rattle.model.specs.declared.Layout.{Layout}
 use Rattle.model.specs.Reading.{dueAt, within, windowFault, pairFault, endFault, valueFault, fitsDue, faultFor}
 
@@ -26,6 +25,10 @@ pub section-range : (most hi v r : ℕ) → hi ≡ most → r ≡ within 0 hi v 
 section-range most hi v r e t = rw e at t
 
 module _ (l : Layout) (q prev k v r f : ℕ) (is : r ≡ f) where
+  pub at-0 : k ≡ 0 → f ≡ within 0 250000 v → r ≡ valueFault l q prev k v
+  unfolding valueFault
+  at-0 e t = is ∙ rw e t
+
   pub at-1 : k ≡ 1 → f ≡ within 1 52 v → r ≡ valueFault l q prev k v
   unfolding valueFault
   at-1 e t = is ∙ rw e t
@@ -58,6 +61,7 @@ module _ (l : Layout) (q prev k v r f : ℕ) (is : r ≡ f) where
   unfolding valueFault
   cost-kind a b =
       simp (
+        ne-eqb k 0 (omega arith),
         ne-eqb k 1 (omega arith),
         le-leb 2 k (omega arith),
         lt-leb k 3 (omega arith),
@@ -75,9 +79,9 @@ module _ (l : Layout) (q prev k v r f : ℕ) (is : r ≡ f) where
   pub at-9 : k ≡ 9 → f ≡ within 0 250000 v → r ≡ valueFault l q prev k v
   at-9 e t = is ∙ (t ∙ sym (cost-kind (omega arith) (omega arith)))
 
-  pub at-low : (k ≡ 1 → ⊥) → 1 ≤ k → k < 4 → f ≡ within 1 16 v → r ≡ valueFault l q prev k v
+  pub at-low : (k ≡ 0 → ⊥) → (k ≡ 1 → ⊥) → k < 4 → f ≡ within 1 16 v → r ≡ valueFault l q prev k v
   unfolding valueFault
-  at-low h a b t = is ∙ (t ∙ sym (simp (ne-eqb k 1 h, le-leb 2 k (omega arith), le-leb k 3 (omega arith))))
+  at-low h0 h1 b t = is ∙ (t ∙ sym (simp (ne-eqb k 0 h0, ne-eqb k 1 h1, le-leb 2 k (omega arith), le-leb k 3 (omega arith))))
 
 past-triples : (k : ℕ) → 4 ≤ k → (k ≡ 4 → ⊥) → (k ≡ 5 → ⊥) → (k ≡ 6 → ⊥) → (k ≡ 7 → ⊥) → 8 ≤ k
 past-triples k a h4 h5 h6 h7 = omega arith
@@ -86,16 +90,13 @@ past-costs : (k : ℕ) → 8 ≤ k → (k ≡ 8 → ⊥) → (k ≡ 9 → ⊥) �
 past-costs k a h8 h9 = omega arith
 
 module _ (l : Layout) (q prev k v r : ℕ) (is : r ≡ 1) where
-  pub at-zero : k < 1 → r ≡ valueFault l q prev k v
-  unfolding valueFault
-  at-zero h = rw (lt-one h) is
-
   pub at-high : 4 ≤ k → (k ≡ 4 → ⊥) → (k ≡ 5 → ⊥) → (k ≡ 6 → ⊥) → (k ≡ 7 → ⊥) → (k ≡ 8 → ⊥) → (k ≡ 9 → ⊥) → (k ≡ 10 → ⊥) → (k ≡ 15 → ⊥)
       → r ≡ valueFault l q prev k v
   unfolding valueFault
   at-high a h4 h5 h6 h7 h8 h9 h10 h15 =
       let above : 9 < k = past-costs k (past-triples k a h4 h5 h6 h7) h8 h9 in
       is ∙ sym (simp (
+        ne-eqb k 0 (omega arith),
         ne-eqb k 1 (omega arith),
         le-leb 2 k (omega arith),
         lt-leb k 3 (omega arith),
@@ -109,7 +110,7 @@ module _ (l : Layout) (q prev k v r : ℕ) (is : r ≡ 1) where
         ne-eqb k 15 h15,
       ))
 
-pub ruleset arms = (at-1, at-4, at-5, at-6, at-7, at-8, at-9, at-10, at-15, at-low, at-zero, at-high)
+pub ruleset arms = (at-0, at-1, at-4, at-5, at-6, at-7, at-8, at-9, at-10, at-15, at-low, at-high)
 
 -- ---- the test of the kind, before it
 

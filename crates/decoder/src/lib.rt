@@ -51,8 +51,11 @@ fn due_at(l: Layout, q: usize) -> usize
     if q < l.runnings {
         return 8;
     }
-    if q < l.pairs {
+    if q < l.offs {
         return 9;
+    }
+    if q < l.pairs {
+        return 0;
     }
     10
 }
@@ -159,6 +162,7 @@ fn stage_of(l: Layout, q: usize, prev: usize, k: usize, v: usize) -> Stage
     ensures onward { λ r. ⌜ Onward l q k (r .most) (r .next) ⌝ }
 {
     match k {
+        0 => section(250000, l.pairs, v),
         1 => alone(range(1, 52, v), q),
         2..=3 => alone(range(1, 16, v), q),
         4 => section(16000000, l.triples, v),
@@ -166,7 +170,7 @@ fn stage_of(l: Layout, q: usize, prev: usize, k: usize, v: usize) -> Stage
         6 => alone(window_fault(l, v), q),
         7 => alone(range(1, l.weeks, v), q),
         8 => section(250000, l.runnings, v),
-        9 => section(250000, l.pairs, v),
+        9 => section(250000, l.offs, v),
         10 => alone(pair_fault(l, q, prev, v), q),
         15 => alone(end_fault(q, v), q),
         _ => alone(1, q),

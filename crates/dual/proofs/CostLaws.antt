@@ -3,7 +3,7 @@
 -- Assumes nothing.
 use Prim.Native.Nat.{ℕ, suc, _+_, _*_, _-_, _≤_, _<_}
 use mathlib.Core.Path.{_≡_, sym, _∙_, ap, subst}
-use mathlib.Core.Bool.{true, _&&_}
+use mathlib.Core.Bool.{Bool, true, false, _&&_}
 use mathlib.Core.List.{List}
 use native.Mathlib.Decide.{ℕ-discrete}
 use native.Mathlib.Omega.{arith}
@@ -11,23 +11,28 @@ use lib.Dec.{leb}
 use lib.ListN.{length, getD, set, replicate, length-set}
 use lib.Seq.{getD-set-same, getD-set-other}
 use borrow.Author.Tests.{leb-true, le-leb}
+use Rattle.sums.specs.Logic.{if}
 use Rattle.sums.specs.Sum.{sumTo, added, turned, shifted}
+use Rattle.sums.specs.NumSet.{NumSet, pick, parts}
 use Rattle.sums.proofs.LogicLaws.{and-of, and-left, and-right}
+use Rattle.sums.proofs.SumLaws.{sum-same, sum-added}
 use Rattle.sums.proofs.LoopLaws.{sum-next, sum-ended, zeros-at}
 use Rattle.model.specs.declared.Layout.{Layout}
 use Rattle.model.specs.Problem.{Problem}
 use Rattle.model.specs.Domain.{permitted}
+use Rattle.model.specs.Schedule.{inSpan}
 use Rattle.model.specs.Words.{problemOf}
 use Rattle.model.proofs.DomainLaws.{permits-ends}
 use Rattle.model.proofs.FileLaws.{fair}
 use Rattle.instance.specs.Filed.{Filed}
 use Rattle.instance.proofs.FiledLaws.{weeks-are, units-are}
 use Rattle.overhaul.specs.Range.{StartRange}
+use Rattle.overhaul.specs.Off.{offWeeks}
 use Rattle.overhaul.proofs.SpanLaws.{span-sum}
 use Rattle.overhaul.proofs.UpkeepLaws.{start-some, ends-within}
 use Rattle.blame.specs.Priced.{priced}
 use Rattle.relaxation.specs.Relaxed.{priceIn, Prices}
-use Rattle.dual.specs.Dual.{leastIn, excessIn, Costs, LeastFrom}
+use Rattle.dual.specs.Dual.{spanSum, leastIn, excessIn, Costs, LeastFrom}
 
 -- ---- a price
 
@@ -57,19 +62,48 @@ pub priced-next : (ws us : List ℕ) (i a k s c v m r : ℕ) → s ≡ sumTo k (
 unfolding shifted added turned
 priced-next ws us i a k s c v m r hs hc hv hm hr = sum-next (shifted a (pricedWeek ws us i)) k s m r hs (omega arith) hr
 
+-- and what it would cost OFF
+pub inside-next : (ws : List ℕ) (i a k s v r : ℕ) → s ≡ sumTo k (shifted a (turned (problemOf ws .off) i)) → v ≡ problemOf ws .off (a + k) i
+    → r ≡ s + v → r ≡ sumTo (k + 1) (shifted a (turned (problemOf ws .off) i))
+unfolding shifted turned
+inside-next ws i a k s v r = sum-next (shifted a (turned (problemOf ws .off) i)) k s v r
+
 -- all its weeks
-pub priced-ended : (ws : List ℕ) (l : Layout) (us : List ℕ) (i start k d r : ℕ) → Filed ws l → i < l .units → permitted (problemOf ws) i start ≡ true
-    → d ≡ problemOf ws .duration i → k ≤ d → d ≤ k → r ≡ sumTo k (shifted (start - 1) (pricedWeek ws us i)) → r ≡ priced (problemOf ws)
-    (priceIn us) i start
-unfolding priced
-priced-ended ws l us i start k d r f h e is m n t =
+pub span-ended : (ws : List ℕ) (l : Layout) (g : ℕ → ℕ) (i start k d r : ℕ) → Filed ws l → i < l .units → permitted (problemOf ws) i start ≡ true
+    → d ≡ problemOf ws .duration i → k ≤ d → d ≤ k → r ≡ sumTo k (shifted (start - 1) g) → r ≡ spanSum (problemOf ws) i start g
+unfolding spanSum
+span-ended ws l g i start k d r f h e is m n t =
     let p = problemOf ws in
     let s : start ≡ suc (start - 1) = omega (arith, start-some ws l i start f h e) in
     let b : start - 1 + p .duration i ≤ p .weeks = omega (arith, ends-within ws l i start f h e d is, weeks-are ws l f) in
-    sum-ended (shifted (start - 1) (pricedWeek ws us i)) k d r t m n
-    ∙ ap (λ (z : ℕ). sumTo z (shifted (start - 1) (pricedWeek ws us i))) is
-    ∙ sym (span-sum (start - 1) (p .duration i) (pricedWeek ws us i) (p .weeks) b)
-    ∙ ap (λ (z : ℕ). priced p (priceIn us) i z) (sym s)
+    sum-ended (shifted (start - 1) g) k d r t m n
+    ∙ ap (λ (z : ℕ). sumTo z (shifted (start - 1) g)) is
+    ∙ sym (span-sum (start - 1) (p .duration i) g (p .weeks) b)
+    ∙ ap (λ (z : ℕ). spanSum p i z g) (sym s)
+
+-- one term in a set and another elsewhere, or the other everywhere: they differ by both over the set
+parts-shifted : (n : ℕ) (a : NumSet) (g f : ℕ → ℕ) → sumTo n (parts a g f) + sumTo n (pick a f) ≡ sumTo n (pick a g) + sumTo n f
+unfolding parts pick added
+parts-shifted n a g f =
+    sym (sum-added n (parts a g f) (pick a f))
+    ∙ sum-same n (added (parts a g f) (pick a f)) (added (pick a g) f) (λ k l. go k (a k))
+    ∙ sum-added n (pick a g) f
+  where
+    go : (k : ℕ) (b : Bool) → if b (g k) (f k) + if b (f k) 0 ≡ if b (g k) 0 + f k
+    go k true = omega arith
+    go k false = omega arith
+
+-- so an overhaul with OFF in all other weeks comes from sums over its own weeks and OFF in all
+priced-shifted : (p : Problem) (u : ℕ → ℕ → ℕ) (i s : ℕ) → priced p u i s + spanSum p i s (turned (p .off) i)
+    ≡ spanSum p i s (added (turned (p .maint) i) (turned u i)) + offWeeks p i
+unfolding priced spanSum offWeeks
+priced-shifted p u i s =
+    parts-shifted (p .weeks) (inSpan s (p .duration i)) (added (turned (p .maint) i) (turned u i)) (turned (p .off) i)
+
+-- as the code adds and takes off
+pub priced-is : (ws us : List ℕ) (i s c o a q r : ℕ) → c ≡ spanSum (problemOf ws) i s (pricedWeek ws us i) → o ≡ offWeeks (problemOf ws) i
+    → a ≡ c + o → q ≡ spanSum (problemOf ws) i s (turned (problemOf ws .off) i) → r ≡ a - q → r ≡ priced (problemOf ws) (priceIn us) i s
+priced-is ws us i s c o a q r ec eo ea eq er = omega (arith, priced-shifted (problemOf ws) (priceIn us) i s)
 
 -- ---- the least of a unit's starts
 

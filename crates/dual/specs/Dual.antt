@@ -8,17 +8,23 @@ use mathlib.Core.List.{List}
 use lib.ListN.{length, getD}
 use lib.Dec.{ltb}
 use Rattle.sums.specs.Sum.{sumTo, shifted}
-use Rattle.sums.specs.NumSet.{NumSet, has}
+use Rattle.sums.specs.NumSet.{NumSet, pick, has}
 use Rattle.model.specs.Problem.{Problem}
 use Rattle.model.specs.Domain.{permitted}
-use Rattle.model.specs.Schedule.{outIn}
+use Rattle.model.specs.Schedule.{inSpan, outIn}
 use Rattle.model.specs.Commitment.{NO_RUN}
 use Rattle.blame.specs.Closed.{Closed}
 use Rattle.blame.specs.Placed.{outOf}
-use Rattle.blame.specs.Priced.{priced, priceSum, lowerBound, WeekLeast}
+use Rattle.blame.specs.Priced.{priced, priceSum, offSum, lowerBound, WeekLeast}
 use Rattle.relaxation.specs.Clashes.{Clashes}
 use Rattle.relaxation.specs.Relaxed.{priceIn, Prices, Value}
 use Rattle.dual.specs.declared.Kept.{Kept}
+
+-- ---- an overhaul
+
+-- a sum over the weeks of unit i's overhaul from start s
+unfoldable pub spanSum : Problem → (i s : ℕ) → (ℕ → ℕ) → ℕ
+spanSum p i s f = sumTo (p .weeks) (pick (inSpan s (p .duration i)) f)
 
 -- ---- tables
 
@@ -43,13 +49,13 @@ pub record Costs (p : Problem) (u : ℕ → ℕ → ℕ) (n : ℕ) (costs : List
 pub record Roots (p : Problem) (u : ℕ → ℕ → ℕ) (n : ℕ) (roots : List ℕ) : Type 0 where
   pub each : (t : ℕ) → t < n → Value p u t (has 0) (worthIn roots t)
 
--- all prices together stand after the last of 52 weeks
+-- all OFF costs and all prices together stand after the last of 52 weeks
 pub record Dual (p : Problem) (us clash cost root : List ℕ) : Type 0 where
   pub small : Prices us
   pub clashes : Clashes p (p .units) clash
   pub costs : Costs p (priceIn us) (p .units) cost
   pub roots : Roots p (priceIn us) (p .weeks) root
-  pub total : worthIn root 52 ≡ priceSum p (priceIn us)
+  pub total : worthIn root 52 ≡ offSum p + priceSum p (priceIn us)
 
 -- ---- the bound
 
@@ -68,7 +74,7 @@ pub record Bounds (p : Problem) (u : ℕ → ℕ → ℕ) (costs : List ℕ) (b 
 pub record PermitsTo (p : Problem) (starts : ℕ → ℕ) (k : ℕ) : Type 0 where
   pub each : (i : ℕ) → i < k → permitted p i (starts i) ≡ true
 
--- the units to blame, all below k: where the bound comes to the limit and all prices, their starts are a dead end; else all units below k
+-- the units to blame, all below k: where the bound comes to the limit and the total, their starts are a dead end; else all units below k
 pub record Blamed (p : Problem) (starts : ℕ → ℕ) (k sum limit total b : ℕ) : Type 0 where
   pub within : (i : ℕ) → has b i ≡ true → i < k
   pub closed : limit + total ≤ sum → Closed p (has b) starts limit

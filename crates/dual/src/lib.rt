@@ -6,17 +6,18 @@ ghost use mathlib.Core.Path.{_≡_};
 ghost use mathlib.Core.Bool.{true};
 ghost use Prim.Native.Nat.{ℕ, _+_, _-_, _*_, _<_, _≤_};
 ghost use lib.ListN.{length};
-ghost use Rattle.sums.specs.Sum.{sumTo};
+ghost use Rattle.sums.specs.Sum.{sumTo, added, turned};
 ghost use Rattle.sums.specs.NumSet.{has};
 ghost use Rattle.model.specs.Domain.{permitted};
 ghost use Rattle.model.specs.Words.{problemOf};
 ghost use Rattle.instance.specs.Filed.{Filed};
+ghost use Rattle.overhaul.specs.Off.{offWeeks};
 ghost use Rattle.blame.specs.Closed.{startIn};
 ghost use Rattle.blame.specs.Placed.{firstUnits};
-ghost use Rattle.blame.specs.Priced.{priced, priceSum};
+ghost use Rattle.blame.specs.Priced.{priced, priceSum, offSum};
 ghost use Rattle.relaxation.specs.Clashes.{Clashes};
 ghost use Rattle.relaxation.specs.Relaxed.{priceIn, Prices, Recalls};
-ghost use Rattle.dual.specs.Dual.{excessIn, Costs, Roots, worthIn, Dual, Bounds, PermitsTo, Blamed, LeastFrom, lossOf, PutBack, Thins, Thinned};
+ghost use Rattle.dual.specs.Dual.{spanSum, excessIn, Costs, Roots, worthIn, Dual, Bounds, PermitsTo, Blamed, LeastFrom, lossOf, PutBack, Thins, Thinned};
 
 // ---- what overhauls cost
 
@@ -36,13 +37,30 @@ fn price_of(prices: &[u32; 832], t: usize, i: usize) -> Euro
     euros(prices[t * 16 + i])
 }
 
-// What the overhaul of unit i costs from a permitted start, its prices included.
-fn priced_cost(words: &[u32], l: Layout, prices: &[u32; 832], i: usize, start: usize) -> Euro
+// What unit i would cost OFF in the weeks of its overhaul from a permitted start.
+fn span_off(words: &[u32], l: Layout, i: usize, start: usize) -> Euro
+    requires { ⌜ Filed (now words) l ⌝ }
+    requires { ⌜ i < l .units ⌝ }
+    requires { ⌜ permitted (problemOf (now words)) i start ≡ true ⌝ }
+    ensures { λ r. ⌜ r .0 ≡ spanSum (problemOf (now (words .entry))) i start (turned (problemOf (now (words .entry)) .off) i) ⌝ }
+{
+    let duration = instance::duration(words, l, i);
+    let first = start - 1;
+    let mut sum = Euro(0);
+    for k in 0..duration {
+        sum = sum.plus(instance::off_cost(words, l, first + k, i));
+    }
+    sum
+}
+
+// What these weeks cost, their prices included.
+fn span_cost(words: &[u32], l: Layout, prices: &[u32; 832], i: usize, start: usize) -> Euro
     requires { ⌜ Filed (now words) l ⌝ }
     requires { ⌜ i < l .units ⌝ }
     requires { ⌜ permitted (problemOf (now words)) i start ≡ true ⌝ }
     requires { ⌜ Prices (now prices) ⌝ }
-    ensures { λ r. ⌜ (r .0 ≡ priced (problemOf (now (words .entry))) (priceIn (now (prices .entry))) i start) × (r .0 ≤ 268435456) ⌝ }
+    ensures { λ r. ⌜ (r .0 ≡ spanSum (problemOf (now (words .entry))) i start
+        (added (turned (problemOf (now (words .entry)) .maint) i) (turned (priceIn (now (prices .entry))) i))) × (r .0 ≤ 231103808) ⌝ }
 {
     let duration = instance::duration(words, l, i);
     let first = start - 1;
@@ -53,6 +71,28 @@ fn priced_cost(words: &[u32], l: Layout, prices: &[u32; 832], i: usize, start: u
         sum = sum.plus(cost.plus(price));
     }
     sum
+}
+
+// What the overhaul of unit i costs from a permitted start, its prices included, with OFF in all other weeks, where `off` is what all weeks cost
+// OFF: so no start asks for the weeks outside its overhaul.
+fn priced_cost(
+    words: &[u32],
+    l: Layout,
+    prices: &[u32; 832],
+    i: usize,
+    off: Euro,
+    start: usize,
+) -> Euro
+    requires { ⌜ Filed (now words) l ⌝ }
+    requires { ⌜ i < l .units ⌝ }
+    requires { ⌜ (off .0 ≡ offWeeks (problemOf (now words)) i) × (off .0 ≤ 13000000) ⌝ }
+    requires { ⌜ permitted (problemOf (now words)) i start ≡ true ⌝ }
+    requires { ⌜ Prices (now prices) ⌝ }
+    ensures { λ r. ⌜ (r .0 ≡ priced (problemOf (now (words .entry))) (priceIn (now (prices .entry))) i start) × (r .0 ≤ 268435456) ⌝ }
+{
+    let all = span_cost(words, l, prices, i, start).plus(off);
+    let inside = span_off(words, l, i, start);
+    all.less(inside)
 }
 
 // The smaller of two costs.
@@ -66,17 +106,18 @@ fn smaller(a: Euro, b: Euro) -> Euro
 }
 
 // At most what it costs from any permitted start.
-fn least_priced(words: &[u32], l: Layout, prices: &[u32; 832], i: usize) -> Euro
+fn least_priced(words: &[u32], l: Layout, prices: &[u32; 832], i: usize, off: Euro) -> Euro
     requires { ⌜ Filed (now words) l ⌝ }
     requires { ⌜ i < l .units ⌝ }
+    requires { ⌜ (off .0 ≡ offWeeks (problemOf (now words)) i) × (off .0 ≤ 13000000) ⌝ }
     requires { ⌜ Prices (now prices) ⌝ }
     ensures { λ r. ⌜ LeastFrom (problemOf (now (words .entry))) (priceIn (now (prices .entry))) i (r .0) × (r .0 ≤ 268435456) ⌝ }
 {
     let starts = overhaul::starts_of(words, l, i);
-    // No overhaul costs more: 52 weeks at 250,000 and 2^22.
+    // No overhaul costs more: 52 weeks at 250,000 and 2^22, and 52 at 250,000.
     let mut least = Euro(268435456);
     for s in starts.first..starts.last + 1 {
-        let cost = priced_cost(words, l, prices, i, s);
+        let cost = priced_cost(words, l, prices, i, off, s);
         least = smaller(least, cost);
     }
     least
@@ -91,10 +132,11 @@ fn put_costs(words: &[u32], l: Layout, prices: &[u32; 832], i: usize, table: &mu
     ensures { λ r. ⌜ Costs (problemOf (now (words .entry))) (priceIn (now (prices .entry))) (i + 1) (now (table .exit)) ⌝ }
 {
     let starts = overhaul::starts_of(words, l, i);
-    let least = least_priced(words, l, prices, i);
+    let off = overhaul::off_weeks(words, l, i);
+    let least = least_priced(words, l, prices, i, off);
     table[i * 64] = least.0 as u32;
     for s in starts.first..starts.last + 1 {
-        let cost = priced_cost(words, l, prices, i, s);
+        let cost = priced_cost(words, l, prices, i, off, s);
         table[i * 64 + s] = (cost.0 - least.0) as u32;
     }
 }
@@ -129,21 +171,34 @@ fn week_prices(l: Layout, prices: &[u32; 832], t: usize) -> Euro
     sum
 }
 
-// All prices.
+// All OFF costs and all prices of week t.
+fn week_total(words: &[u32], l: Layout, prices: &[u32; 832], t: usize) -> Euro
+    requires { ⌜ Filed (now words) l ⌝ }
+    requires { ⌜ t < l .weeks ⌝ }
+    requires { ⌜ Prices (now prices) ⌝ }
+    ensures { λ r. ⌜ (r .0 ≡ sumTo (l .units) (problemOf (now (words .entry)) .off t) + sumTo (l .units) (priceIn (now (prices .entry)) t))
+        × (r .0 ≤ 71108864) ⌝ }
+{
+    let off = instance::off_sum(words, l, t, sets::below(l.units));
+    off.plus(week_prices(l, prices, t))
+}
+
+// All OFF costs and all prices.
 fn total(words: &[u32], l: Layout, prices: &[u32; 832]) -> Euro
     requires { ⌜ Filed (now words) l ⌝ }
     requires { ⌜ Prices (now prices) ⌝ }
-    ensures { λ r. ⌜ (r .0 ≡ priceSum (problemOf (now (words .entry))) (priceIn (now (prices .entry)))) × (r .0 ≤ 3489660928) ⌝ }
+    ensures { λ r. ⌜ (r .0 ≡ offSum (problemOf (now (words .entry))) + priceSum (problemOf (now (words .entry))) (priceIn (now (prices .entry))))
+        × (r .0 ≤ 3697660928) ⌝ }
 {
     let weeks = l.weeks;
     let mut sum = Euro(0);
     for t in 0..weeks {
-        sum = sum.plus(week_prices(l, prices, t));
+        sum = sum.plus(week_total(words, l, prices, t));
     }
     sum
 }
 
-// What each week is worth with nobody out, and after the last of 52 all prices.
+// What each week is worth with nobody out, and after the last of 52 all OFF costs and all prices.
 pub fn roots(
     words: &[u32],
     l: Layout,
@@ -155,7 +210,7 @@ pub fn roots(
     requires { ⌜ Prices (now prices) × Clashes (problemOf (now words)) (l .units) (now clashes) ⌝ }
     requires { ⌜ Recalls (problemOf (now words)) (priceIn (now prices)) (now memo) ⌝ }
     ensures answer { λ r. ⌜ Roots (problemOf (now (words .entry))) (priceIn (now (prices .entry))) (l .weeks) r
-        × (worthIn r 52 ≡ priceSum (problemOf (now (words .entry))) (priceIn (now (prices .entry)))) ⌝ }
+        × (worthIn r 52 ≡ offSum (problemOf (now (words .entry))) + priceSum (problemOf (now (words .entry))) (priceIn (now (prices .entry)))) ⌝ }
     ensures recalls { λ r. ⌜ Recalls (problemOf (now (words .entry))) (priceIn (now (prices .entry))) (now (memo .exit)) ⌝ }
 {
     let weeks = l.weeks;
@@ -323,7 +378,7 @@ fn thinned(
     kept
 }
 
-// What a bound has to come to: the limit, and all prices.
+// What a bound has to come to: the limit, all OFF costs and all prices.
 pub fn wanted(roots: &[u32; 53], limit: Euro) -> Euro
     requires { ⌜ limit .0 ≤ 268435456 ⌝ }
     ensures { λ r. ⌜ (r .0 ≡ limit .0 + worthIn (now (roots .entry)) 52) × (r .0 ≤ 8589934592) ⌝ }
@@ -331,7 +386,7 @@ pub fn wanted(roots: &[u32; 53], limit: Euro) -> Euro
     limit.plus(euros(roots[52]))
 }
 
-// A bound less all prices, 0 where they are more, and no more than the limit.
+// A bound less all OFF costs and all prices, 0 where they are more, and no more than the limit.
 pub fn cost_below(roots: &[u32; 53], sum: Euro, limit: Euro) -> Euro
     ensures { λ r. ⌜ r .0 ≤ limit .0 ⌝ }
 {

@@ -12,6 +12,8 @@ pub mod Rows
 pub mod General
 -- ties are decided by numbers and starts
 pub mod Ties
+-- OFF costs count
+pub mod Warm
 -- runs of asks that meet demand 3, and runs that do not
 pub mod Runs
 -- the worked run meets demand 3

@@ -24,7 +24,7 @@ use Rattle.model.specs.Program.{programVerdict}
 use Rattle.model.proofs.ReadingLaws.{refused-not}
 use Rattle.figures.specs.Files.{fileA}
 use Rattle.figures.specs.Cases.{bytesOf, Each, askPair}
-use Rattle.figures.specs.Refusals.{kindRows, rangeRows, windowRows, pairRows, fifthRows, endRows, askRows, lentFor, memoryRows, largeRows, runRows, gridRows, formulaRows, bytesRows, drawRows, inputRows, judgeRows, LongInput, ReadInput, sizeRows, sizingRows, RefusedRun, NoCause, Refusals}
+use Rattle.figures.specs.Refusals.{kindRows, offRows, rangeRows, windowRows, pairRows, fifthRows, endRows, askRows, lentFor, memoryRows, largeRows, runRows, gridRows, formulaRows, warmGridRows, bytesRows, drawRows, inputRows, judgeRows, LongInput, ReadInput, sizeRows, sizingRows, RefusedRun, NoCause, Refusals}
 use Rattle.figures.proofs.CaseLaws.{each-of}
 
 -- ---- files
@@ -32,6 +32,10 @@ use Rattle.figures.proofs.CaseLaws.{each-of}
 kinds : Each readOf kindRows
 unfolding readOf kindOf valueOf kindAt valueAt layoutOf
 kinds = each-of readOf kindRows refl
+
+offs : Each readOf offRows
+unfolding readOf kindOf valueOf kindAt valueAt layoutOf
+offs = each-of readOf offRows refl
 
 ranges : Each readOf rangeRows
 unfolding readOf kindOf valueOf kindAt valueAt layoutOf
@@ -49,9 +53,9 @@ ends : Each readOf endRows
 unfolding readOf kindOf valueOf kindAt valueAt layoutOf
 ends = each-of readOf endRows refl
 
-fifth : Each (λ w. pairFault (layoutFor 1 16) (w .0) 34 (w .1)) fifthRows
+fifth : Each (λ w. pairFault (layoutFor 1 16 0) (w .0) 34 (w .1)) fifthRows
 unfolding pairFault layoutFor
-fifth = each-of (λ w. pairFault (layoutFor 1 16) (w .0) 34 (w .1)) fifthRows refl
+fifth = each-of (λ w. pairFault (layoutFor 1 16 0) (w .0) 34 (w .1)) fifthRows refl
 
 -- ---- asks and lent memory
 
@@ -80,6 +84,10 @@ grids = each-of (λ j. judgeOf (j .0) (j .1)) gridRows refl
 formulas : Each (λ j. judgeOf (j .0) (j .1)) formulaRows
 unfolding judgeOf readOf problemOf layoutOf kindOf valueOf kindAt valueAt sumTo countsOne allTo allTable someTo pick isOn isMaint cell output headcount broken cost9
 formulas = each-of (λ j. judgeOf (j .0) (j .1)) formulaRows refl
+
+warm-grids : Each (λ j. judgeOf (j .0) (j .1)) warmGridRows
+unfolding judgeOf readOf problemOf layoutOf kindOf valueOf kindAt valueAt sumTo countsOne allTo allTable someTo pick isOn isMaint cell output headcount broken cost9
+warm-grids = each-of (λ j. judgeOf (j .0) (j .1)) warmGridRows refl
 
 -- ---- bytes
 
@@ -158,6 +166,7 @@ no-cause number place answers₀ table₀ scratch₀ answers table scratch a t s
 pub refusals : Refusals
 refusals = (
   kinds,
+  offs,
   ranges,
   windows,
   pairs,
@@ -169,6 +178,7 @@ refusals = (
   runs,
   grids,
   formulas,
+  warm-grids,
   loads,
   drawings,
   inputs,

@@ -12,15 +12,15 @@ use Rattle.sums.specs.NumSet.{has}
 use Rattle.sums.proofs.LogicLaws.{is-true, and-left, and-right}
 use Rattle.model.specs.Judgement.{judgeOf}
 use Rattle.model.specs.Schedule.{scheduleOf}
-use Rattle.model.specs.Commitment.{serves, cheapestRun}
+use Rattle.model.specs.Commitment.{serves, cheapestRun, leastCost, fullLeast, offCost}
 use Rattle.model.specs.Prefix.{prefixes, rank, spaceBound}
 use Rattle.model.specs.Words.{problemOf}
 use Rattle.model.specs.Verdict.{accepted}
 use Rattle.model.specs.Reading.{readOf}
 use Rattle.model.specs.Answer.{optimal, infeasible}
 use Rattle.model.proofs.FileLaws.{ranged, fair}
-use Rattle.figures.specs.Rows.{Claim, cheapest, noneAt, none, conflict, noConflict, meeting, starts, rule, places, ranked, week, notWeek, right, wrong, noted, unfit, ran, wrongAnswers, wrongTable, Claimed, Row, All, nobody}
-use Rattle.figures.specs.Tests.{isCorrect, isNogood, isLegal, everySound, notTaken, isPlace, samePick, noConflictTests, startsTests, ranTests, wrongAnswersTests, wrongTableTests, isAccepted, claimTest, rowTest, tests, computes}
+use Rattle.figures.specs.Rows.{Claim, cheapest, noneAt, none, conflict, noConflict, meeting, starts, rule, places, ranked, week, notWeek, weekCosts, right, wrong, noted, unfit, ran, wrongAnswers, wrongTable, Claimed, Row, All, nobody}
+use Rattle.figures.specs.Tests.{isCorrect, isNogood, isLegal, everySound, notTaken, isPlace, samePick, noConflictTests, startsTests, costTests, ranTests, wrongAnswersTests, wrongTableTests, isAccepted, claimTest, rowTest, tests, computes}
 use Rattle.figures.proofs.TestLaws.{all-hold-at, legal-of}
 use Rattle.figures.proofs.ClaimLaws.{nobody-of, place-of, correct-of, correct-test, conflict-of, refuted-of, nogood-of, nogood-test, starts-of, breaks-of, accepted-of, pick-of, pick-test, not-met}
 use Rattle.figures.proofs.RunLaws.{meets-of, answers-refused, table-refused}
@@ -52,6 +52,10 @@ claim-of f (ranked ss n) read e =
     (place-of (problemOf f) (fair f read) ss (and-left a b e), eqb-true (rank (problemOf f) ss) n (and-right a b e))
 claim-of f (week t out x) read e = pick-of (problemOf f) t (has out) x e
 claim-of f (notWeek t out x) read e = λ h. not-met (samePick (cheapestRun (problemOf f) t (has out)) x) e (pick-test (problemOf f) t (has out) x h)
+claim-of f (weekCosts t out least full off) read e =
+    let p = problemOf f in
+    let h = all-hold-at (costTests p t out least full off) e in
+    (eqb-true (leastCost p t (has out)) least (h .0), eqb-true (fullLeast p t (has out)) full (h .1 .0), eqb-true (offCost p t (has out)) off (h .1 .1 .0))
 claim-of f (right c b a) read e = correct-of (problemOf f) (fair f read) c b a e
 claim-of f (wrong c b a) read e = λ h. not-met (isCorrect (problemOf f) c b a) e (correct-test (problemOf f) (fair f read) c b a h)
 claim-of f (noted g) read e = nogood-of (problemOf f) (fair f read) g e

@@ -4,6 +4,7 @@ use Rattle.figures.specs.Rows.{rows, All}
 use Rattle.figures.specs.General.{General}
 use Rattle.figures.specs.Worked.{Worked}
 use Rattle.figures.specs.Ties.{Ties}
+use Rattle.figures.specs.Warm.{Warm}
 use Rattle.figures.specs.Runs.{Runs}
 use Rattle.figures.specs.Refusals.{Refusals}
 use Rattle.figures.specs.Encodings.{Encodings}
@@ -12,6 +13,6 @@ use Rattle.figures.specs.Encodings.{Encodings}
 abbrev pub Paper : Type 0
 Paper = All rows × General
 
--- the paper's figures and its worked run; ties and runs of asks; refusals; words, bytes and lines
+-- the paper's figures and its worked run; ties, OFF costs and runs of asks; refusals; words, bytes and lines
 abbrev pub Figures : Type 0
-Figures = Paper × Worked × Ties × Runs × Refusals × Encodings
+Figures = Paper × Worked × Ties × Warm × Runs × Refusals × Encodings

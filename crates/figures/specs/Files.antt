@@ -1,7 +1,8 @@
 -- The files of the worked figures, word by word (document 01, "Worked figures").
 -- Assumes nothing.
 use Prim.Native.Nat.{ℕ}
-use mathlib.Core.List.{List, [], _∷_}
+use mathlib.Core.List.{List, [], _∷_, _++_}
+use lib.ListN.{take, replicate}
 use Rattle.model.specs.Words.{_∶_}
 
 -- file A
@@ -77,3 +78,11 @@ abbrev pub fileApart : List ℕ
 fileApart =
     1 ∶ 2 ∷ 2 ∶ 3 ∷ 3 ∶ 3 ∷ 4 ∶ 0 ∷ 4 ∶ 0 ∷ 5 ∶ 9 ∷ 6 ∶ 66 ∷ 7 ∶ 1 ∷ 5 ∶ 9 ∷ 6 ∶ 66 ∷ 7 ∶ 1 ∷ 5 ∶ 9 ∷ 6 ∶ 66 ∷ 7 ∶ 1
     ∷ 8 ∶ 0 ∷ 8 ∶ 0 ∷ 8 ∶ 0 ∷ 8 ∶ 0 ∷ 8 ∶ 0 ∷ 8 ∶ 0 ∷ 9 ∶ 0 ∷ 9 ∶ 0 ∷ 9 ∶ 0 ∷ 9 ∶ 0 ∷ 9 ∶ 0 ∷ 9 ∶ 0 ∷ 10 ∶ 67 ∷ 15 ∶ 27 ∷ []
+
+-- file A with OFF costs: in week 1 more than running, in week 2 for unit 2 as much as running, in week 3 more again
+abbrev pub fileWarm : List ℕ
+fileWarm = take 24 fileA ++ (0 ∶ 9 ∷ 0 ∶ 8 ∷ 0 ∶ 7 ∷ 0 ∶ 4 ∷ 0 ∶ 5 ∷ 0 ∶ 10 ∷ 15 ∶ 30 ∷ [])
+
+-- file A with OFF costs that are all 0
+abbrev pub fileZeros : List ℕ
+fileZeros = take 24 fileA ++ replicate 6 (0 ∶ 0) ++ (15 ∶ 30 ∷ [])

@@ -6,8 +6,9 @@ pub mod Rows
 pub mod Tests
 -- what holds for every problem
 pub mod General
--- ties, runs of asks, the worked run
+-- ties, OFF costs, runs of asks, the worked run
 pub mod Ties
+pub mod Warm
 pub mod Runs
 pub mod Worked
 -- what is due from the definitions for given inputs

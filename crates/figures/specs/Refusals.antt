@@ -16,7 +16,7 @@ use Rattle.model.specs.Drawing.{drawVerdict}
 use Rattle.model.specs.Judgement.{Judgement, soundAt, breaks, rejected, judgeOf, judgeBytes, judgeInput}
 use Rattle.model.specs.Asks.{Ran}
 use Rattle.model.specs.Program.{inputFile, inputAsks, unitsVerdict, programVerdict}
-use Rattle.figures.specs.Files.{fileA, fileOne, fileGap}
+use Rattle.figures.specs.Files.{fileA, fileOne, fileGap, fileWarm}
 use Rattle.figures.specs.Cases.{Case, _⟶_, Each, bytesA, askPair, askBytes, bodyThree, alike, bytesOf}
 
 -- ---- a file: the reader's verdict (1 to 7)
@@ -46,9 +46,8 @@ kindRows =
     -- a pair or the end word before the costs are complete
     ∷ set fileA 23 (10 ∶ 34) ⟶ refused 1 23
     ∷ set fileA 3 (15 ∶ 3) ⟶ refused 1 3
-    -- after the costs, neither a pair nor the end word
+    -- after the costs, neither an OFF cost nor a pair nor the end word
     ∷ set fileA 24 (9 ∶ 4) ⟶ refused 1 24
-    ∷ set fileA 24 (0 ∶ 24) ⟶ refused 1 24
     ∷ set fileA 24 (14 ∶ 24) ⟶ refused 1 24
     -- the words stop before the end word: their number is the place
     ∷ [] ⟶ refused 1 0
@@ -61,6 +60,33 @@ kindRows =
     ∷ set fileA 6 (6 ∶ 129) ⟶ refused 1 6
     ∷ set fileA 12 (10 ∶ 0) ⟶ refused 1 12
     ∷ set fileA 12 (15 ∶ 0) ⟶ refused 1 12
+    ∷ []
+
+-- 1, 2 and 6 where OFF costs may stand: six of them behind the running costs of file A, or none
+abbrev pub offRows : List (Case (List ℕ) Verdict)
+offRows =
+    endA (replicate 6 (0 ∶ 7) ++ (15 ∶ 30 ∷ [])) ⟶ accepted
+    ∷ endA (replicate 6 (0 ∶ 7) ++ (10 ∶ 34 ∷ 15 ∶ 31 ∷ [])) ⟶ accepted
+    -- too few: the first word of another kind, or the number of words
+    ∷ endA (replicate 5 (0 ∶ 7) ++ (15 ∶ 29 ∷ [])) ⟶ refused 1 29
+    ∷ endA (replicate 5 (0 ∶ 7) ++ (10 ∶ 34 ∷ 15 ∶ 30 ∷ [])) ⟶ refused 1 29
+    ∷ endA (replicate 1 (0 ∶ 24)) ⟶ refused 1 25
+    ∷ endA (replicate 6 (0 ∶ 7)) ⟶ refused 1 30
+    -- too many: the surplus word
+    ∷ endA (replicate 7 (0 ∶ 7) ++ (15 ∶ 31 ∷ [])) ⟶ refused 1 30
+    ∷ endA (replicate 12 (0 ∶ 7) ++ (15 ∶ 36 ∷ [])) ⟶ refused 1 30
+    -- another kind among them
+    ∷ set (endA (replicate 6 (0 ∶ 7) ++ (15 ∶ 30 ∷ []))) 26 (9 ∶ 7) ⟶ refused 1 26
+    -- in another section, and behind a pair
+    ∷ set fileA 3 (0 ∶ 10) ⟶ refused 1 3
+    ∷ set fileA 23 (0 ∶ 4) ⟶ refused 1 23
+    ∷ endA (10 ∶ 34 ∷ replicate 6 (0 ∶ 7) ++ (15 ∶ 31 ∷ [])) ⟶ refused 1 25
+    -- 2: 0 to 250,000, the first and the last of them
+    ∷ set (endA (replicate 6 (0 ∶ 0) ++ (15 ∶ 30 ∷ []))) 29 (0 ∶ 250000) ⟶ accepted
+    ∷ set (endA (replicate 6 (0 ∶ 0) ++ (15 ∶ 30 ∷ []))) 29 (0 ∶ 250001) ⟶ refused 2 29
+    ∷ set (endA (replicate 6 (0 ∶ 0) ++ (15 ∶ 30 ∷ []))) 24 (0 ∶ 250001) ⟶ refused 2 24
+    -- 6: the end word counts them
+    ∷ endA (replicate 6 (0 ∶ 7) ++ (15 ∶ 24 ∷ [])) ⟶ refused 6 30
     ∷ []
 
 -- 2, with both ends of each range
@@ -306,6 +332,16 @@ formulaRows =
     ∷ (set (set fileA 3 (4 ∶ 0)) 2 (3 ∶ 2), 2 ∷ 2 ∷ 1 ∷ 0 ∷ 1 ∷ 0 ∷ []) ⟶ soundAt 16
     ∷ []
 
+-- (9) with OFF costs: no cell OFF; unit 2 OFF in week 3, unit 1 there, unit 2 in week 2; both in week 3, where the demand is not met
+abbrev pub warmGridRows : List (Case (List ℕ × List ℕ) Judgement)
+warmGridRows =
+    (fileWarm, 1 ∷ 2 ∷ 2 ∷ 1 ∷ 1 ∷ 1 ∷ []) ⟶ soundAt 23
+    ∷ (fileWarm, 1 ∷ 2 ∷ 2 ∷ 1 ∷ 1 ∷ 0 ∷ []) ⟶ soundAt 29
+    ∷ (fileWarm, 1 ∷ 2 ∷ 2 ∷ 1 ∷ 0 ∷ 1 ∷ []) ⟶ soundAt 25
+    ∷ (fileWarm, 1 ∷ 2 ∷ 1 ∷ 0 ∷ 2 ∷ 1 ∷ []) ⟶ soundAt 25
+    ∷ (fileWarm, 1 ∷ 2 ∷ 2 ∷ 1 ∷ 0 ∷ 0 ∷ []) ⟶ breaks 1
+    ∷ []
+
 -- ---- words and bytes lent for a list (16, 17)
 
 -- so many bytes into so many words
@@ -430,13 +466,13 @@ NoCause = (number place : ℕ) (answers₀ table₀ scratch₀ answers table scr
 -- all of them
 abbrev pub Refusals : Type 0
 Refusals =
-    Each readOf kindRows × Each readOf rangeRows × Each readOf windowRows × Each readOf pairRows × Each readOf endRows
-    × Each (λ w. pairFault (layoutFor 1 16) (w .0) 34 (w .1)) fifthRows
+    Each readOf kindRows × Each readOf offRows × Each readOf rangeRows × Each readOf windowRows × Each readOf pairRows × Each readOf endRows
+    × Each (λ w. pairFault (layoutFor 1 16 0) (w .0) 34 (w .1)) fifthRows
     × Each asksVerdict askRows
     × Each (lentFor fileA 2) memoryRows
     × Each (lentFor (1 ∶ 52 ∷ 2 ∶ 16 ∷ []) 32) largeRows
     × Each (λ r. runVerdict (r .0) (r .1) (r .2) (r .3) (r .4)) runRows
-    × Each (λ j. judgeOf (j .0) (j .1)) gridRows × Each (λ j. judgeOf (j .0) (j .1)) formulaRows
+    × Each (λ j. judgeOf (j .0) (j .1)) gridRows × Each (λ j. judgeOf (j .0) (j .1)) formulaRows × Each (λ j. judgeOf (j .0) (j .1)) warmGridRows
     × Each (λ b. bytesVerdict (b .0) (b .1)) bytesRows
     × Each (λ d. drawVerdict (d .0) (d .1)) drawRows
     × Each programVerdict inputRows × Each judgeInput judgeRows

@@ -11,7 +11,7 @@ use Rattle.sums.specs.NumSet.{has}
 use Rattle.model.specs.Judgement.{breaks, judgeOf}
 use Rattle.model.specs.Domain.{permitted}
 use Rattle.model.specs.Schedule.{Schedule, Sound}
-use Rattle.model.specs.Commitment.{serves, Pick, IsPick}
+use Rattle.model.specs.Commitment.{serves, Pick, IsPick, leastCost, fullLeast, offCost}
 use Rattle.model.specs.Prefix.{ValidPrefix, prefixes, rank, spaceBound}
 use Rattle.model.specs.Words.{problemOf}
 use Rattle.model.specs.Verdict.{accepted}
@@ -44,6 +44,8 @@ pub data Claim : Type 0 where
   -- of a week and the number of a set of units out: this is its cheapest run, or there is none; it is not
   week : ℕ → ℕ → Pick → Claim
   notWeek : ℕ → ℕ → Pick → Claim
+  -- what it costs, what it costs with OFF charged to the units out too, and what these would cost OFF
+  weekCosts : (t out least full off : ℕ) → Claim
   -- the answer is right for a ceiling and a budget; it is wrong
   right : ℕ → ℕ → Answer → Claim
   wrong : ℕ → ℕ → Answer → Claim
@@ -104,6 +106,8 @@ Claimed f (places n figure) = (prefixes (problemOf f) ≡ n) × (spaceBound (pro
 Claimed f (ranked ss n) = ValidPrefix (problemOf f) ss × (rank (problemOf f) ss ≡ n)
 Claimed f (week t out x) = IsPick (problemOf f) t (has out) x
 Claimed f (notWeek t out x) = IsPick (problemOf f) t (has out) x → ⊥
+Claimed f (weekCosts t out least full off) =
+    (leastCost (problemOf f) t (has out) ≡ least) × (fullLeast (problemOf f) t (has out) ≡ full) × (offCost (problemOf f) t (has out) ≡ off)
 Claimed f (right c b a) = Correct (problemOf f) c b a
 Claimed f (wrong c b a) = Correct (problemOf f) c b a → ⊥
 Claimed f (noted g) = IsNogood (problemOf f) g

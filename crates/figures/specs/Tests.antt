@@ -8,14 +8,14 @@ use lib.Dec.{ltb, leb, eqb}
 use Rattle.sums.specs.Logic.{if, implies}
 use Rattle.sums.specs.Sum.{sumTo, countsOne}
 use Rattle.sums.specs.Range.{allTo, allTable, someTo, listTo, countTo, allLists, countLists}
-use Rattle.sums.specs.NumSet.{pick, has}
+use Rattle.sums.specs.NumSet.{pick, parts, away, has}
 use Rattle.model.specs.Problem.{Problem}
 use Rattle.model.specs.Grid.{isOn, isMaint, cell}
 use Rattle.model.specs.Rules.{output, headcount, keeps1, broken, cost9}
 use Rattle.model.specs.Judgement.{Judgement, soundAt, breaks, rejected, judgeOf}
 use Rattle.model.specs.Domain.{permitted}
 use Rattle.model.specs.Schedule.{Schedule, scheduleOf, inSpan, outIn, layOut, cost}
-use Rattle.model.specs.Commitment.{runCost, freeAt, runBefore, serves, Pick, nothing, picked, cheapestRun}
+use Rattle.model.specs.Commitment.{runCost, freeAt, runBefore, serves, Pick, nothing, picked, cheapestRun, leastCost, fullCost, fullLeast, offCost}
 use Rattle.model.specs.Prefix.{startsFrom, before, startsOf, prefixes, rank, spaceBound}
 use Rattle.model.specs.Words.{kindOf, valueOf, kindAt, valueAt, layoutOf, problemOf}
 use Rattle.model.specs.Verdict.{Verdict, accepted, refused}
@@ -24,7 +24,7 @@ use Rattle.model.specs.Refusal.{asksVerdict, blockSize}
 use Rattle.model.specs.Nogood.{Choice, Nogood, nogoodWords, nogoodsWords, boundsAlone}
 use Rattle.model.specs.Answer.{Answer, optimal, infeasible, incumbent, unknown, zeros, blocksOf}
 use Rattle.model.specs.Asks.{askCount, ceilingAt, budgetAt, answerAt, concludes, settled, leftAt}
-use Rattle.figures.specs.Rows.{Claim, cheapest, noneAt, none, conflict, noConflict, meeting, starts, rule, places, ranked, week, notWeek, right, wrong, noted, unfit, ran, wrongAnswers, wrongTable, Row, member, nobody}
+use Rattle.figures.specs.Rows.{Claim, cheapest, noneAt, none, conflict, noConflict, meeting, starts, rule, places, ranked, week, notWeek, weekCosts, right, wrong, noted, unfit, ran, wrongAnswers, wrongTable, Row, member, nobody}
 
 -- every one of the tests holds
 unfoldable pub every : List Bool → Bool
@@ -332,6 +332,10 @@ noConflictTests p g s = isSound p s ∷ takes (g .choices) s ∷ leb (cost p s) 
 abbrev pub startsTests : Problem → ℕ → List ℕ → List Bool
 startsTests p i ss = ltb i (p .units) ∷ below (p .weeks + 1) ss ∷ allTo (p .weeks + 1) (startIs p i ss) ∷ []
 
+abbrev pub costTests : Problem → (t out least full off : ℕ) → List Bool
+costTests p t out least full off =
+    eqb (leastCost p t (has out)) least ∷ eqb (fullLeast p t (has out)) full ∷ eqb (offCost p t (has out)) off ∷ []
+
 abbrev pub ranTests : Problem → List ℕ → List Answer → List (List Nogood) → List ℕ → List ℕ → List Bool
 ranTests p asks told left answers table =
     isLent p asks answers table ∷ isTold p asks told answers ∷ isAnswered p asks told ∷ isLeft p asks told left table ∷ []
@@ -359,6 +363,7 @@ claimTest f p (places n figure) = eqb (prefixes p) n && eqb (spaceBound p) figur
 claimTest f p (ranked ss n) = isPlace p ss && eqb (rank p ss) n
 claimTest f p (week t out x) = samePick (cheapestRun p t (has out)) x
 claimTest f p (notWeek t out x) = not (samePick (cheapestRun p t (has out)) x)
+claimTest f p (weekCosts t out least full off) = every (costTests p t out least full off)
 claimTest f p (right c b a) = isCorrect p c b a
 claimTest f p (wrong c b a) = not (isCorrect p c b a)
 claimTest f p (noted g) = isNogood p g
@@ -380,5 +385,5 @@ tests (r ∷ rs) = rowTest r && tests rs
 
 -- the same test with all its definitions opened, as antt computes it
 unfoldable pub computes : List Row → Bool
-unfolding tests sumTo countsOne allTo allTable someTo listTo countTo allLists countLists pick has flatten isOn isMaint cell output headcount keeps1 broken cost9 judgeOf permitted inSpan outIn layOut cost freeAt runBefore serves runCost cheapestRun startsFrom before startsOf prefixes rank spaceBound kindOf valueOf kindAt valueAt layoutOf problemOf readOf asksVerdict blockSize nogoodWords nogoodsWords boundsAlone zeros blocksOf askCount ceilingAt budgetAt answerAt concludes settled leftAt
+unfolding tests sumTo countsOne allTo allTable someTo listTo countTo allLists countLists pick parts away has flatten isOn isMaint cell output headcount keeps1 broken cost9 judgeOf permitted inSpan outIn layOut cost freeAt runBefore serves runCost cheapestRun leastCost fullCost fullLeast offCost startsFrom before startsOf prefixes rank spaceBound kindOf valueOf kindAt valueAt layoutOf problemOf readOf asksVerdict blockSize nogoodWords nogoodsWords boundsAlone zeros blocksOf askCount ceilingAt budgetAt answerAt concludes settled leftAt
 computes rs = tests rs

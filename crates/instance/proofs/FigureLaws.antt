@@ -1,12 +1,15 @@
 -- The value of the word at a section's place is the problem's figure and lies in its range; the layout's numbers are the file's own.
 -- Assumes nothing.
 use Prim.Native.Nat.{ℕ, _+_, _*_, _-_, _/_, _%_, _≤_, _<_}
-use mathlib.Core.Path.{_≡_}
+use mathlib.Core.Path.{_≡_, subst}
 use mathlib.Core.List.{List}
 use native.Mathlib.Omega.{arith}
 use lib.ListN.{length, getD}
 use Rattle.model.specs.declared.Layout.{Layout}
-use Rattle.model.specs.Words.{valueOf, valueAt, problemOf}
+use Rattle.model.specs.Words.{valueOf, valueAt, layoutOf, offAt, problemOf}
+use mathlib.Core.Bool.{true, false}
+use lib.Dec.{ltb}
+use borrow.Author.Tests.{lt-ltb, le-ltb}
 use Rattle.model.specs.Ranges.{Ranged}
 use Rattle.model.proofs.FileLaws.{ranged}
 use Rattle.instance.specs.Filed.{Filed}
@@ -56,6 +59,20 @@ module _ (ws : List ℕ) (l : Layout) (f : Filed ws l) where
   pub running-at : (r q t i : ℕ) → q ≡ t * l .units + i → r ≡ valueOf (getD ws (l .runnings + q) 0) → r ≡ problemOf ws .running t i
   unfolding problemOf valueAt
   running-at r q t i p e = rw (p, f .laid) at e
+
+  pub off-at : (r q t i : ℕ) → l .offs < l .pairs → q ≡ t * l .units + i → r ≡ valueOf (getD ws (l .offs + q) 0) → r ≡ problemOf ws .off t i
+  unfolding problemOf offAt valueAt
+  off-at r q t i some p e =
+      let s : ltb (layoutOf ws .offs) (layoutOf ws .pairs) ≡ true
+      = subst (λ (z : Layout). ltb (z .offs) (z .pairs) ≡ true) (f .laid) (lt-ltb (l .offs) (l .pairs) some) in
+      rw s (rw (p, f .laid) at e)
+
+  pub off-none : (t i : ℕ) → l .pairs ≤ l .offs → 0 ≡ problemOf ws .off t i
+  unfolding problemOf offAt
+  off-none t i none =
+      let s : ltb (layoutOf ws .offs) (layoutOf ws .pairs) ≡ false
+      = subst (λ (z : Layout). ltb (z .offs) (z .pairs) ≡ false) (f .laid) (le-ltb (l .offs) (l .pairs) none) in
+      rw s
 
   pub pairs-at : length ws - (l .pairs + 1) ≡ problemOf ws .pairs
   unfolding problemOf
@@ -111,6 +128,9 @@ module _ (ws : List ℕ) (l : Layout) (f : Filed ws l) where
 
     pub running-most : r ≡ valueOf (getD ws (l .runnings + q) 0) → r ≤ 250000
     running-most e = omega (arith, running-at r q t i at e, in-range .running-most t i (week t ht) (unit i hi))
+
+    pub off-most : l .offs < l .pairs → r ≡ valueOf (getD ws (l .offs + q) 0) → r ≤ 250000
+    off-most some e = omega (arith, off-at r q t i some at e, in-range .off-most t i (week t ht) (unit i hi))
 
   module _ (r n : ℕ) (h : n < problemOf ws .pairs) (e : r ≡ valueAt ws (l .pairs + n)) where
     pub pair-a-most : r / 32 - 1 < l .units

@@ -10,3 +10,4 @@ pub mod TableLaws
 pub mod PartnerLaws
 -- sums over the units of a run
 pub mod RunLaws
+pub mod OffLaws

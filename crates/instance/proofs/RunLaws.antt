@@ -4,12 +4,12 @@ use Prim.Native.Nat.{ℕ, _≤_}
 use mathlib.Core.Path.{_≡_}
 use mathlib.Core.List.{List}
 use Rattle.sums.specs.Sum.{sumTo}
-use Rattle.sums.specs.NumSet.{NumSet, has, pick}
+use Rattle.sums.specs.NumSet.{NumSet, pick}
 use Rattle.sums.proofs.LoopLaws.{sum-ended}
 use Rattle.model.specs.declared.Layout.{Layout}
 use Rattle.model.specs.Words.{problemOf}
 use Rattle.model.specs.Rules.{output}
-use Rattle.model.specs.Commitment.{runCost}
+use Rattle.model.specs.Commitment.{offCost}
 use Rattle.instance.specs.Filed.{Filed}
 use Rattle.instance.proofs.FiledLaws.{units-are}
 
@@ -19,7 +19,7 @@ module _ (ws : List ℕ) (l : Layout) (t k a : ℕ) (f : Filed ws l) (h : k ≤ 
   unfolding output
   output-ended set e = rw (units-are ws l f) (sum-ended (pick set (problemOf ws .capacity t)) k (l .units) a e h g)
 
-  -- what a run costs
-  pub cost-ended : (run : ℕ) → a ≡ sumTo k (pick (has run) (problemOf ws .running t)) → a ≡ runCost (problemOf ws) t run
-  unfolding runCost
-  cost-ended run e = rw (units-are ws l f) (sum-ended (pick (has run) (problemOf ws .running t)) k (l .units) a e h g)
+  -- what any set of units would cost OFF
+  pub off-ended : (set : NumSet) → a ≡ sumTo k (pick set (problemOf ws .off t)) → a ≡ offCost (problemOf ws) t set
+  unfolding offCost
+  off-ended set e = rw (units-are ws l f) (sum-ended (pick set (problemOf ws .off t)) k (l .units) a e h g)

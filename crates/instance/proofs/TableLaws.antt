@@ -51,10 +51,10 @@ module _ (ws : List ℕ) (l : Layout) (f : Filed ws l) where
   unfolding maintsOf
   maints-part = table-part (l .maints) (l .runnings) (omega arith)
 
-  -- the running costs as far as the pairs
-  pub runnings-part : take (l .pairs - l .runnings) (drop (l .runnings) ws) ≡ runningsOf l ws
+  -- the running costs as far as the OFF costs
+  pub runnings-part : take (l .offs - l .runnings) (drop (l .runnings) ws) ≡ runningsOf l ws
   unfolding runningsOf
-  runnings-part = table-part (l .runnings) (l .pairs) (omega arith)
+  runnings-part = table-part (l .runnings) (l .offs) (omega arith)
 
   -- a maintenance cost for each week and unit
   pub maints-length : length (maintsOf l ws) ≡ l .weeks * l .units

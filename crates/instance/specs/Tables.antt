@@ -16,7 +16,7 @@ maintsOf l ws = take (l .weeks * l .units) (drop (l .maints) ws)
 unfoldable pub runningsOf : Layout → List ℕ → List ℕ
 runningsOf l ws = take (l .weeks * l .units) (drop (l .runnings) ws)
 
--- the table that a cell's state names: maintenance costs for MAINT, running costs for ON (and for OFF, which costs nothing and reads none)
+-- the table that a cell's state names: maintenance costs for MAINT, running costs for ON (and for OFF, which reads neither)
 unfoldable pub tableFor : ℕ → List ℕ → List ℕ → List ℕ
 tableFor s maints runnings = if (eqb s MAINT) maints runnings
 

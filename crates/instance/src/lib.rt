@@ -3,12 +3,12 @@
 use model::Layout;
 ghost use mathlib.Core.Path.{_≡_};
 ghost use mathlib.Core.Bool.{_||_};
-ghost use Prim.Native.Nat.{ℕ, _+_, _*_, _<_, _≤_, _^_};
+ghost use Prim.Native.Nat.{ℕ, _+_, _-_, _*_, _<_, _≤_, _^_};
 ghost use lib.ListN.{length};
 ghost use Rattle.sums.specs.NumSet.{has, pick};
-ghost use Rattle.model.specs.Words.{kindOf, valueOf, valueAt, layoutFor, layoutOf, problemOf};
+ghost use Rattle.model.specs.Words.{kindOf, valueOf, kindAt, valueAt, layoutFor, offWords, layoutOf, problemOf};
 ghost use Rattle.model.specs.Rules.{output};
-ghost use Rattle.model.specs.Commitment.{runCost};
+ghost use Rattle.model.specs.Commitment.{offCost};
 ghost use Rattle.model.specs.Pairs.{joins, apart};
 ghost use Rattle.instance.specs.Filed.{Filed};
 ghost use Rattle.instance.specs.Tables.{maintsOf, runningsOf, tableFor, rowOf};
@@ -27,6 +27,16 @@ impl Euro {
     {
         Euro(self.0 + other.0)
     }
+
+    // What is left when another amount is taken off, 0 where that is more.
+    pub fn less(self, other: Euro) -> Euro
+        ensures { λ r. ⌜ r .0 ≡ self .0 - other .0 ⌝ }
+    {
+        if self.0 < other.0 {
+            return Euro(0);
+        }
+        Euro(self.0 - other.0)
+    }
 }
 
 impl Kilo {
@@ -36,6 +46,16 @@ impl Kilo {
         ensures { λ r. ⌜ r .0 ≡ self .0 + other .0 ⌝ }
     {
         Kilo(self.0 + other.0)
+    }
+
+    // What is left when another weight is taken off, 0 where that is more.
+    pub fn less(self, other: Kilo) -> Kilo
+        ensures { λ r. ⌜ r .0 ≡ self .0 - other .0 ⌝ }
+    {
+        if self.0 < other.0 {
+            return Kilo(0);
+        }
+        Kilo(self.0 - other.0)
     }
 }
 
@@ -70,31 +90,65 @@ pub fn value_at(words: &[u32], q: usize) -> usize
     0
 }
 
-// The layout of w weeks and u units.
-fn layout_for(w: usize, u: usize) -> Layout
-    requires { ⌜ (w < 268435456) × (u < 268435456) ⌝ }
-    ensures { λ r. ⌜ r ≡ layoutFor w u ⌝ }
+// The kind of the word at a place, 0 past the end.
+fn kind_at(words: &[u32], q: usize) -> usize
+    ensures { λ r. ⌜ r ≡ kindAt (now (words .entry)) q ⌝ }
+{
+    if q < words.len() {
+        return kind_of(words[q]);
+    }
+    0
+}
+
+// How many OFF costs stand at a place: as many as cells where the word there is of kind 0, else none.
+fn off_words(words: &[u32], q: usize, cells: usize) -> usize
+    ensures { λ r. ⌜ (r ≡ offWords (now (words .entry)) q cells) × (r ≤ cells) ⌝ }
+{
+    if kind_at(words, q) == 0 {
+        return cells;
+    }
+    0
+}
+
+// The layout of w weeks and u units, with n OFF costs.
+fn layout_for(w: usize, u: usize, n: usize) -> Layout
+    requires { ⌜ (w < 268435456) × (u < 268435456) × (n < 2 ^ 57) ⌝ }
+    ensures { λ r. ⌜ r ≡ layoutFor w u n ⌝ }
 {
     let triples = 3 + w;
     let maints = triples + 3 * u;
     let cells = w * u;
     let runnings = maints + cells;
-    let pairs = runnings + cells;
+    let offs = runnings + cells;
+    let pairs = offs + n;
     Layout {
         weeks: w,
         units: u,
         triples,
         maints,
         runnings,
+        offs,
         pairs,
     }
 }
 
-// The layout that the first two words announce, of any words.
+// The number of a table's cells.
+fn cells_of(w: usize, u: usize) -> usize
+    requires { ⌜ (w < 268435456) × (u < 268435456) ⌝ }
+    ensures { λ r. ⌜ (r ≡ w * u) × (r < 2 ^ 57) ⌝ }
+{
+    w * u
+}
+
+// The layout that the first two words announce, and the word after the running costs, of any words.
 pub fn layout_of(words: &[u32]) -> Layout
     ensures { λ r. ⌜ r ≡ layoutOf (now (words .entry)) ⌝ }
 {
-    layout_for(value_at(words, 0), value_at(words, 1))
+    let w = value_at(words, 0);
+    let u = value_at(words, 1);
+    let bare = layout_for(w, u, 0);
+    let n = off_words(words, bare.offs, cells_of(w, u));
+    layout_for(w, u, n)
 }
 
 // M: how many overhauls may go on in one week.
@@ -183,6 +237,19 @@ pub fn running_cost(words: &[u32], l: Layout, t: usize, i: usize) -> Euro
     Euro(value_of(words[q]) as u64)
 }
 
+// What keeping unit i warm costs where it is OFF in week t: 0 where the file has no OFF costs.
+pub fn off_cost(words: &[u32], l: Layout, t: usize, i: usize) -> Euro
+    requires { ⌜ Filed (now words) l ⌝ }
+    requires { ⌜ (t < l .weeks) × (i < l .units) ⌝ }
+    ensures { λ r. ⌜ (r .0 ≡ problemOf (now (words .entry)) .off t i) × (r .0 ≤ 250000) ⌝ }
+{
+    if l.pairs <= l.offs {
+        return Euro(0);
+    }
+    let q = l.offs + cell_place(l, t, i);
+    Euro(value_of(words[q]) as u64)
+}
+
 // What unit i adds to the output of a run in week t.
 fn output_part(words: &[u32], l: Layout, t: usize, run: u32, i: usize) -> Kilo
     requires { ⌜ Filed (now words) l ⌝ }
@@ -209,28 +276,28 @@ pub fn run_output(words: &[u32], l: Layout, t: usize, run: u32) -> Kilo
     sum
 }
 
-// What unit i adds to the cost of a run in week t.
-fn cost_part(words: &[u32], l: Layout, t: usize, run: u32, i: usize) -> Euro
+// What unit i would cost OFF in week t, where it is out.
+fn off_part(words: &[u32], l: Layout, t: usize, out: u32, i: usize) -> Euro
     requires { ⌜ Filed (now words) l ⌝ }
     requires { ⌜ (t < l .weeks) × (i < l .units) ⌝ }
-    ensures { λ r. ⌜ (r .0 ≡ pick (has run) (problemOf (now (words .entry)) .running t) i) × (r .0 ≤ 250000) ⌝ }
+    ensures { λ r. ⌜ (r .0 ≡ pick (has out) (problemOf (now (words .entry)) .off t) i) × (r .0 ≤ 250000) ⌝ }
 {
-    if sets::has(run, i) {
-        return running_cost(words, l, t, i);
+    if sets::has(out, i) {
+        return off_cost(words, l, t, i);
     }
     Euro(0)
 }
 
-// What a run costs in week t.
-pub fn run_cost(words: &[u32], l: Layout, t: usize, run: u32) -> Euro
+// What the units out would cost OFF in week t.
+pub fn off_sum(words: &[u32], l: Layout, t: usize, out: u32) -> Euro
     requires { ⌜ Filed (now words) l ⌝ }
     requires { ⌜ t < l .weeks ⌝ }
-    ensures { λ r. ⌜ (r .0 ≡ runCost (problemOf (now (words .entry))) t run) × (r .0 ≤ 4000000) ⌝ }
+    ensures { λ r. ⌜ (r .0 ≡ offCost (problemOf (now (words .entry))) t (has out)) × (r .0 ≤ 4000000) ⌝ }
 {
     let units = l.units;
     let mut sum = Euro(0);
     for i in 0..units {
-        let more = cost_part(words, l, t, run, i);
+        let more = off_part(words, l, t, out, i);
         sum = sum.plus(more);
     }
     sum
@@ -252,12 +319,12 @@ pub fn running_table(words: &[u32], l: Layout) -> &[u32]
     ensures { λ r. ⌜ now r ≡ runningsOf l (now (words .entry)) ⌝ }
 {
     let from = l.runnings;
-    let to = l.pairs;
+    let to = l.offs;
     &words[from..to]
 }
 
 // The week's row of the table that a cell's state names, a word for each of u units: maintenance costs for MAINT, running costs for ON. OFF
-// costs nothing, and its row is not to be read.
+// has `off_cost`, since a file may have no table of those, and its row is not to be read.
 pub fn cost_row<'a>(
     maints: &'a [u32],
     runnings: &'a [u32],

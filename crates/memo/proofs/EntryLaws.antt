@@ -13,7 +13,7 @@ use Rattle.sums.proofs.LoopLaws.{zeros-at}
 use Rattle.model.specs.declared.Layout.{Layout}
 use Rattle.model.specs.Problem.{Problem}
 use Rattle.model.specs.Words.{problemOf}
-use Rattle.model.specs.Commitment.{leastCost}
+use Rattle.model.specs.Commitment.{fullLeast}
 use Rattle.instance.specs.Filed.{Filed}
 use Rattle.commitment.proofs.ScoreLaws.{least-small}
 use Rattle.memo.specs.declared.Kept.{Kept}
@@ -43,7 +43,7 @@ module _ (ws memo : List ℕ) (l : Layout) (t out key v : ℕ) (found : Kept) (f
   present = subst (Looked memo key) is looked
 
   -- what is found under a week's key is its least cost
-  pub found-cost : v ≡ leastCost (problemOf ws) t (has out)
+  pub found-cost : v ≡ fullLeast (problemOf ws) t (has out)
   found-cost =
       sym (present .entry .kept) ∙ m .holds (present .at) t out (omega (arith, f .weeks-most)) b (present .entry .under ∙ k)
 
@@ -98,17 +98,17 @@ wrote-all P memo memo′ key v wrote old new e = ⊎-elim (λ h. moved _ _ h (ol
 
 -- what an entry says of a week's least cost
 abbrev Says : Problem → ℕ → ℕ → Type 0
-Says p k w = (t out : ℕ) → t < 64 → out < 65536 → k ≡ keyOf t out → w ≡ leastCost p t (has out)
+Says p k w = (t out : ℕ) → t < 64 → out < 65536 → k ≡ keyOf t out → w ≡ fullLeast p t (has out)
 
 module _ (p : Problem) (memo memo′ : List ℕ) (key v : ℕ) (right : Right p memo) (wrote : Wrote memo memo′ key v) where
   right-says : Says p key v → Right p memo′
   right-says new = record { holds = wrote-all (Says p) memo memo′ key v wrote (right .holds) new }
 
   -- a week's least cost under its key; keys tell the week and the set
-  pub right-put : (t out : ℕ) → out < 65536 → key ≡ keyOf t out → v ≡ leastCost p t (has out) → Right p memo′
+  pub right-put : (t out : ℕ) → out < 65536 → key ≡ keyOf t out → v ≡ fullLeast p t (has out) → Right p memo′
   unfolding keyOf
-  right-put t out b k w = right-says (λ t′ out′ l′ b′ e. w ∙ ap (λ (x : ℕ). leastCost p x (has out)) (omega arith)
-      ∙ ap (λ (x : ℕ). leastCost p t′ (has x)) (omega arith))
+  right-put t out b k w = right-says (λ t′ out′ l′ b′ e. w ∙ ap (λ (x : ℕ). fullLeast p x (has out)) (omega arith)
+      ∙ ap (λ (x : ℕ). fullLeast p t′ (has x)) (omega arith))
 
   -- another's word under another's key
   pub right-kept : OTHERS < key → Right p memo′

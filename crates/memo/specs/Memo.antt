@@ -8,7 +8,7 @@ use mathlib.Core.Logic.{_⊎_}
 use lib.ListN.{getD}
 use Rattle.sums.specs.NumSet.{has}
 use Rattle.model.specs.Problem.{Problem}
-use Rattle.model.specs.Commitment.{leastCost}
+use Rattle.model.specs.Commitment.{fullLeast}
 use Rattle.memo.specs.declared.Kept.{Kept}
 use Rattle.memo.specs.declared.Kept.the-variants.{Nothing, Word}
 
@@ -45,4 +45,4 @@ keyOf t out = t * 65536 + out + 1
 
 -- an entry under the key of a week, of 64 at most, and a set has that week's least cost; 0 is no such key
 pub record Right (p : Problem) (memo : List ℕ) : Type 0 where
-  pub holds : (e t out : ℕ) → t < 64 → out < 65536 → getD memo (e * 2) 0 ≡ keyOf t out → getD memo (e * 2 + 1) 0 ≡ leastCost p t (has out)
+  pub holds : (e t out : ℕ) → t < 64 → out < 65536 → getD memo (e * 2) 0 ≡ keyOf t out → getD memo (e * 2 + 1) 0 ≡ fullLeast p t (has out)

@@ -8,7 +8,7 @@ ghost use Prim.Native.Nat.{_+_, _*_, _<_, _≤_};
 ghost use lib.ListN.{length, replicate};
 ghost use Rattle.sums.specs.NumSet.{has};
 ghost use Rattle.model.specs.Words.{problemOf};
-ghost use Rattle.model.specs.Commitment.{leastCost};
+ghost use Rattle.model.specs.Commitment.{leastCost, fullLeast};
 ghost use Rattle.instance.specs.Filed.{Filed};
 ghost use Rattle.memo.specs.Memo.{Looked, Wrote, Others, keyOf, Right};
 
@@ -74,7 +74,29 @@ pub fn keep(memo: &mut [u32], key: u32, word: u32)
     }
 }
 
-// What the cheapest run of week t costs with these units out, 2^28 where there is none: from the memory, or computed and kept there.
+// What the cheapest run of week t costs with OFF charged to the units out too, 2^28 where there is none: from the memory, or computed and kept
+// there.
+pub fn full_least(words: &[u32], l: Layout, t: usize, out: u32, memo: &mut [u32]) -> Euro
+    requires { ⌜ Filed (now words) l ⌝ }
+    requires { ⌜ t < l .weeks ⌝ }
+    requires { ⌜ Right (problemOf (now words)) (now memo) ⌝ }
+    ensures answer { λ r. ⌜ (r .0 ≡ fullLeast (problemOf (now (words .entry))) t (has out)) × (r .0 ≤ 268435456) ⌝ }
+    ensures right { λ r. ⌜ Right (problemOf (now (words .entry))) (now (memo .exit)) × Others (now (memo .entry)) (now (memo .exit)) ⌝ }
+{
+    if 65536 <= out {
+        return commitment::full_least(words, l, t, out);
+    }
+    let key = key_of(t, out);
+    let found = lookup(memo, key);
+    if let Kept::Word(word) = found {
+        return Euro(word as u64);
+    }
+    let cost = commitment::full_least(words, l, t, out);
+    keep(memo, key, cost.0 as u32);
+    cost
+}
+
+// What the cheapest run of week t costs with these units out, 2^28 where there is none: without what the units out would cost OFF.
 pub fn least_cost(words: &[u32], l: Layout, t: usize, out: u32, memo: &mut [u32]) -> Euro
     requires { ⌜ Filed (now words) l ⌝ }
     requires { ⌜ t < l .weeks ⌝ }
@@ -82,15 +104,10 @@ pub fn least_cost(words: &[u32], l: Layout, t: usize, out: u32, memo: &mut [u32]
     ensures answer { λ r. ⌜ (r .0 ≡ leastCost (problemOf (now (words .entry))) t (has out)) × (r .0 ≤ 268435456) ⌝ }
     ensures right { λ r. ⌜ Right (problemOf (now (words .entry))) (now (memo .exit)) × Others (now (memo .entry)) (now (memo .exit)) ⌝ }
 {
-    if 65536 <= out {
-        return commitment::least_cost(words, l, t, out);
+    let full = full_least(words, l, t, out, memo);
+    // 2^28 stands for no run, whoever is charged.
+    if 268435456 <= full.0 {
+        return full;
     }
-    let key = key_of(t, out);
-    let found = lookup(memo, key);
-    if let Kept::Word(word) = found {
-        return Euro(word as u64);
-    }
-    let cost = commitment::least_cost(words, l, t, out);
-    keep(memo, key, cost.0 as u32);
-    cost
+    full.less(instance::off_sum(words, l, t, out))
 }

@@ -4,3 +4,5 @@ pub mod StartLaws
 pub mod SpanLaws
 -- an overhaul's maintenance cost, a week at a time
 pub mod UpkeepLaws
+-- what a unit costs OFF, a week at a time
+pub mod OffLaws

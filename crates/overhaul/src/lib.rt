@@ -1,4 +1,5 @@
-// A unit's overhaul: the weeks in which it may start, and what it costs in maintenance from each. Weeks and units count from 0, starts from 1.
+// A unit's overhaul: the weeks in which it may start, and what it costs in maintenance from each; and what the unit costs OFF over the season.
+// Weeks and units count from 0, starts from 1.
 use instance::Euro;
 use model::Layout;
 ghost use mathlib.Core.Path.{_≡_};
@@ -9,6 +10,7 @@ ghost use Rattle.model.specs.Domain.{permitted};
 ghost use Rattle.model.specs.Plan.{upkeep};
 ghost use Rattle.instance.specs.Filed.{Filed};
 ghost use Rattle.overhaul.specs.Range.{lastStart, StartRange};
+ghost use Rattle.overhaul.specs.Off.{offWeeks};
 
 // The permitted starts of a unit: from the first to the last; none where the last lies before the first.
 pub struct Starts {
@@ -53,6 +55,21 @@ pub fn upkeep(words: &[u32], l: Layout, i: usize, start: usize) -> Euro
     let mut sum = Euro(0);
     for k in 0..duration {
         let more = instance::maint_cost(words, l, first + k, i);
+        sum = sum.plus(more);
+    }
+    sum
+}
+
+// What unit i costs OFF in all weeks.
+pub fn off_weeks(words: &[u32], l: Layout, i: usize) -> Euro
+    requires { ⌜ Filed (now words) l ⌝ }
+    requires { ⌜ i < l .units ⌝ }
+    ensures { λ r. ⌜ (r .0 ≡ offWeeks (problemOf (now (words .entry))) i) × (r .0 ≤ 13000000) ⌝ }
+{
+    let weeks = l.weeks;
+    let mut sum = Euro(0);
+    for t in 0..weeks {
+        let more = instance::off_cost(words, l, t, i);
         sum = sum.plus(more);
     }
     sum

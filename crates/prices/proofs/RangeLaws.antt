@@ -1,20 +1,25 @@
--- What the rounds keep to: prices and pushes in a table, read and written, the length of a step and what it changes, and where an overhaul ends.
+-- What the rounds keep to: OFF costs, prices and pushes in a table, read and written, the length of a step and what it changes, and where an
+-- overhaul ends.
 -- Assumes nothing.
 use Prim.Native.Nat.{ℕ, _+_, _*_, _/_, _-_, _≤_, _<_}
-use mathlib.Core.Path.{_≡_}
+use mathlib.Core.Path.{_≡_, _∙_, ap}
 use mathlib.Core.List.{List}
 use native.Mathlib.Decide.{ℕ-discrete, decLt}
 use native.Mathlib.Nat.{le-trans, mul-le-mul-left, mul-le-mul-right, div-le-self}
 use native.Mathlib.Omega.{arith}
 use lib.ListN.{length, getD, set, replicate, length-set, length-replicate, getD-replicate, List·getD-eq-default}
 use lib.Seq.{getD-set-same, getD-set-other}
+use Rattle.sums.specs.Sum.{sumTo}
+use Rattle.sums.proofs.LoopLaws.{place-next}
 use Rattle.model.specs.declared.Layout.{Layout}
+use Rattle.model.specs.Problem.{Problem}
 use Rattle.model.specs.Words.{problemOf}
 use Rattle.instance.specs.Filed.{Filed}
-use Rattle.instance.proofs.FiledLaws.{weeks-are}
+use Rattle.instance.proofs.FiledLaws.{weeks-are, units-are}
 use Rattle.overhaul.specs.Range.{lastStart}
+use Rattle.overhaul.specs.Off.{offWeeks}
 use Rattle.relaxation.specs.Relaxed.{Prices}
-use Rattle.prices.specs.Ranges.{Pushes}
+use Rattle.prices.specs.Ranges.{OffsTo, Offs, Pushes}
 
 -- ---- tables
 
@@ -54,6 +59,36 @@ pushes-none = record { small = same-most 832 1024 2048 (omega arith) }
 -- a push written
 pub pushes-put : (xs : List ℕ) (at v : ℕ) → Pushes xs → v ≤ 2048 → Pushes (set xs at v)
 pushes-put xs at v h m = record { small = put-most xs at v 2048 (h .small) m }
+
+-- ---- OFF costs
+
+-- none yet
+pub offs-start : (p : Problem) → OffsTo p 0 (replicate 17 0)
+offs-start p = record { long = length-replicate {A = ℕ} 17 0; each = λ i l. absurd (omega arith) }
+
+-- one more unit
+pub offs-next : (p : Problem) (xs : List ℕ) (n units v : ℕ) → n < units → units ≤ 16 → OffsTo p n xs → v ≡ offWeeks p n → OffsTo p (n + 1) (set xs n v)
+offs-next p xs n units v more few h e = record {
+  long = length-set xs n v ∙ h .long;
+  each = place-next (λ (i x : ℕ). x ≡ offWeeks p i) xs n v (omega (arith, h .long)) e (h .each);
+}
+
+-- all of them, and behind them their sum
+pub offs-ended : (ws : List ℕ) (l : Layout) (xs : List ℕ) (k units v : ℕ) → Filed ws l → OffsTo (problemOf ws) k xs → units ≡ l .units
+    → k ≤ units → units ≤ k → v ≡ sumTo k (offWeeks (problemOf ws)) → Offs (problemOf ws) (set xs 16 v)
+offs-ended ws l xs k units v f h e a b is = record {
+  units = record {
+    long = length-set xs 16 v ∙ h .long;
+    each = λ i m. getD-set-other xs 16 i v 0 (λ z. omega (arith, few)) ∙ h .each i (omega (arith, count));
+  };
+  all = getD-set-same xs 16 v 0 (omega (arith, h .long)) ∙ is ∙ ap (λ (n : ℕ). sumTo n (offWeeks (problemOf ws))) count;
+}
+  where
+    count : k ≡ problemOf ws .units
+    count = omega (arith, units-are ws l f)
+
+    few : problemOf ws .units ≤ 16
+    few = omega (arith, f .units-most, units-are ws l f)
 
 -- ---- steps
 

@@ -10,7 +10,7 @@ ghost use Rattle.instance.specs.Filed.{Filed};
 ghost use Rattle.memo.specs.Memo.{Right, Others};
 ghost use Rattle.relaxation.specs.Relaxed.{Prices};
 ghost use Rattle.relaxation.specs.Clashes.{Clashes};
-ghost use Rattle.prices.specs.Ranges.{Pushes, Fine};
+ghost use Rattle.prices.specs.Ranges.{Offs, Pushes, Fine};
 
 // The most rounds, for each unit of the file.
 const ROUNDS: usize = 16;
@@ -33,7 +33,7 @@ const NONE: u64 = 1099511627776;
 
 // It stands in a table: at place t the units that week t has out, at place 52 + i the least start of unit i.
 
-// A unit's least cost, its prices included, and the first start that costs it.
+// A unit's least cost, its prices and OFF costs included, and the first start that costs it.
 struct Least {
     cost: Euro,
     start: usize,
@@ -41,7 +41,7 @@ struct Least {
 
 // A word as an amount.
 fn amount(word: u32) -> u64
-    ensures { λ r. ⌜ r ≡ word ⌝ }
+    ensures { λ r. ⌜ (r ≡ word) × (r < 4294967296) ⌝ }
 {
     word as u64
 }
@@ -65,6 +65,31 @@ fn above(a: u64, b: u64) -> u64
     a - b
 }
 
+// What each unit costs OFF in all weeks, and at place 16 what all of them do. It is the same in all rounds.
+fn off_table(words: &[u32], l: Layout) -> [u32; 17]
+    requires { ⌜ Filed (now words) l ⌝ }
+    ensures { λ r. ⌜ Offs (problemOf (now (words .entry))) r ⌝ }
+{
+    let units = l.units;
+    let mut table: [u32; 17] = [0; 17];
+    let mut all = Euro(0);
+    for i in 0..units {
+        let off = overhaul::off_weeks(words, l, i);
+        table[i] = off.0 as u32;
+        all = all.plus(off);
+    }
+    table[16] = all.0 as u32;
+    table
+}
+
+// The amount at a place of it.
+fn off_at(offs: &[u32; 17], place: usize) -> Euro
+    requires { ⌜ place < 17 ⌝ }
+    ensures { λ r. ⌜ r .0 < 4294967296 ⌝ }
+{
+    Euro(amount(offs[place]))
+}
+
 // What week t of unit i's overhaul costs, its price included.
 fn week_cost(words: &[u32], l: Layout, prices: &[u32; 832], t: usize, i: usize) -> Euro
     requires { ⌜ Filed (now words) l ⌝ }
@@ -76,11 +101,30 @@ fn week_cost(words: &[u32], l: Layout, prices: &[u32; 832], t: usize, i: usize) 
     instance::maint_cost(words, l, t, i).plus(price)
 }
 
-// What the overhaul of unit i costs from its first permitted start, its prices included.
+// What a week of unit i's overhaul costs, its price included, and OFF in another week.
+fn swap_cost(
+    words: &[u32],
+    l: Layout,
+    prices: &[u32; 832],
+    i: usize,
+    inside: usize,
+    outside: usize,
+) -> Euro
+    requires { ⌜ Filed (now words) l ⌝ }
+    requires { ⌜ (i < l .units) × (inside < l .weeks) × (outside < l .weeks) ⌝ }
+    requires { ⌜ Prices (now prices) ⌝ }
+    ensures { λ r. ⌜ r .0 ≤ 4694304 ⌝ }
+{
+    let off = instance::off_cost(words, l, outside, i);
+    week_cost(words, l, prices, inside, i).plus(off)
+}
+
+// What the overhaul of unit i costs from its first permitted start, its prices included, with OFF in all other weeks: at first all weeks are OFF.
 fn first_cost(
     words: &[u32],
     l: Layout,
     prices: &[u32; 832],
+    offs: &[u32; 17],
     i: usize,
     first: usize,
     duration: usize,
@@ -88,11 +132,13 @@ fn first_cost(
     requires { ⌜ Filed (now words) l ⌝ }
     requires { ⌜ (i < l .units) × (first + duration ≤ l .weeks) ⌝ }
     requires { ⌜ Prices (now prices) ⌝ }
-    ensures { λ r. ⌜ r .0 ≤ 268435456 ⌝ }
+    ensures { λ r. ⌜ r .0 ≤ 8589934592 ⌝ }
 {
-    let mut sum = Euro(0);
+    let mut sum = off_at(offs, i);
     for k in 0..duration {
-        sum = sum.plus(week_cost(words, l, prices, first + k, i));
+        let more = sum.plus(week_cost(words, l, prices, first + k, i));
+        let off = instance::off_cost(words, l, first + k, i);
+        sum = more.less(off);
     }
     sum
 }
@@ -108,8 +154,8 @@ fn lesser(least: Least, cost: Euro, start: usize) -> Least
     least
 }
 
-// The least of unit i's permitted starts; from one to the next the cost loses a week and gains one.
-fn least_start(words: &[u32], l: Layout, prices: &[u32; 832], i: usize) -> Least
+// The least of unit i's permitted starts; from one to the next the overhaul loses a week and gains one, and these two are OFF the other way round.
+fn least_start(words: &[u32], l: Layout, prices: &[u32; 832], offs: &[u32; 17], i: usize) -> Least
     requires { ⌜ Filed (now words) l ⌝ }
     requires { ⌜ i < l .units ⌝ }
     requires { ⌜ Prices (now prices) ⌝ }
@@ -125,19 +171,27 @@ fn least_start(words: &[u32], l: Layout, prices: &[u32; 832], i: usize) -> Least
         };
     }
     let duration = instance::duration(words, l, i);
-    let mut cost = first_cost(words, l, prices, i, start - 1, duration);
+    let mut cost = first_cost(words, l, prices, offs, i, start - 1, duration);
     let mut least = Least { cost, start };
     for s in start..last {
-        let gone = week_cost(words, l, prices, s - 1, i);
-        let come = week_cost(words, l, prices, s - 1 + duration, i);
-        cost = Euro(above(cost.0, gone.0)).plus(come);
+        let old = s - 1;
+        let new = old + duration;
+        let gone = swap_cost(words, l, prices, i, old, new);
+        let come = swap_cost(words, l, prices, i, new, old);
+        cost = cost.plus(come).less(gone);
         least = lesser(least, cost, s + 1);
     }
     least
 }
 
 // What all units cost at least; their least starts are written.
-fn overhauls(words: &[u32], l: Layout, prices: &[u32; 832], wants: &mut [u32; 68]) -> Euro
+fn overhauls(
+    words: &[u32],
+    l: Layout,
+    prices: &[u32; 832],
+    offs: &[u32; 17],
+    wants: &mut [u32; 68],
+) -> Euro
     requires { ⌜ Filed (now words) l ⌝ }
     requires { ⌜ Prices (now prices) ⌝ }
     ensures { λ r. ⌜ r .0 ≤ 17592186044416 ⌝ }
@@ -145,7 +199,7 @@ fn overhauls(words: &[u32], l: Layout, prices: &[u32; 832], wants: &mut [u32; 68
     let units = l.units;
     let mut sum = Euro(0);
     for i in 0..units {
-        let least = least_start(words, l, prices, i);
+        let least = least_start(words, l, prices, offs, i);
         wants[52 + i] = least.start as u32;
         sum = sum.plus(least.cost);
     }
@@ -195,12 +249,14 @@ fn total(l: Layout, prices: &[u32; 832]) -> Euro
     sum
 }
 
-// What every schedule costs at least by these prices, 2^40 or more for none; what units and weeks want is written.
+// What every schedule costs at least by these prices, 2^40 for none: overhauls and weeks, less all prices and all OFF costs; what units and weeks
+// want is written.
 fn relaxed(
     words: &[u32],
     l: Layout,
     prices: &[u32; 832],
     clashes: &[u32; 16],
+    offs: &[u32; 17],
     wants: &mut [u32; 68],
     memo: &mut [u32],
 ) -> Euro
@@ -209,13 +265,17 @@ fn relaxed(
     requires { ⌜ Right (problemOf (now words)) (now memo) ⌝ }
     ensures right { λ r. ⌜ Right (problemOf (now (words .entry))) (now (memo .exit)) × Others (now (memo .entry)) (now (memo .exit)) ⌝ }
 {
-    let units = overhauls(words, l, prices, wants);
+    let units = overhauls(words, l, prices, offs, wants);
     if NONE <= units.0 {
         return Euro(NONE);
     }
     let weeks = weeks_worth(words, l, prices, clashes, wants, memo);
+    if NONE <= weeks.0 {
+        return Euro(NONE);
+    }
     let sum = units.plus(weeks);
-    Euro(above(sum.0, total(l, prices).0))
+    let most = total(l, prices).plus(off_at(offs, 16));
+    sum.less(most)
 }
 
 // ---- pushes
@@ -398,6 +458,7 @@ fn round(
     words: &[u32],
     l: Layout,
     clashes: &[u32; 16],
+    offs: &[u32; 17],
     s: Progress,
     prices: &mut [u32; 832],
     push: &mut [u32; 832],
@@ -419,7 +480,7 @@ fn round(
     }
     let step = step_of(s, size);
     move_prices(l, step, push, prices);
-    relaxed(words, l, prices, clashes, wants, memo).0
+    relaxed(words, l, prices, clashes, offs, wants, memo).0
 }
 
 // After a round: a gain is kept; too many rounds without one go back to the best prices and make steps shorter.
@@ -472,6 +533,7 @@ fn climb(
     words: &[u32],
     l: Layout,
     clashes: &[u32; 16],
+    offs: &[u32; 17],
     root: u64,
     first: [u32; 68],
     memo: &mut [u32],
@@ -500,6 +562,7 @@ fn climb(
             words,
             l,
             clashes,
+            offs,
             s,
             &mut prices,
             &mut push,
@@ -536,9 +599,10 @@ pub fn rounds(words: &[u32], l: Layout, clashes: &[u32; 16], memo: &mut [u32]) -
 {
     let none: [u32; 832] = [0; 832];
     let mut wants: [u32; 68] = [0; 68];
-    let root = relaxed(words, l, &none, clashes, &mut wants, memo).0;
+    let offs = off_table(words, l);
+    let root = relaxed(words, l, &none, clashes, &offs, &mut wants, memo).0;
     if NONE <= root {
         return none;
     }
-    climb(words, l, clashes, root, wants, memo)
+    climb(words, l, clashes, &offs, root, wants, memo)
 }

@@ -22,7 +22,7 @@ use Rattle.model.proofs.CommitmentLaws.{cheapest-right}
 use Rattle.model.proofs.DomainLaws.{permits-to}
 use Rattle.model.proofs.FileLaws.{ranged}
 use Rattle.instance.proofs.FiledLaws.{filed, weeks-are}
-use Rattle.commitment.proofs.ScoreLaws.{run-small}
+use Rattle.commitment.proofs.ScoreLaws.{served-small}
 use Rattle.quotes.specs.Quotes.{Quoted, none, quoted, denied, among, pickQuote, runQuote, startQuote, upkeepQuote}
 use Rattle.quotes.proofs.QuoteLaws.{among-some, among-most}
 
@@ -34,13 +34,14 @@ Bounded (denied number place) = ⊥
 
 module _ (ws : List ℕ) (e : readOf ws ≡ accepted) where
   -- a week of the file
-  week-bounded : (t out : ℕ) → t < layoutOf ws .weeks → (f : Pick) → IsPick (problemOf ws) t (has out) f → Bounded (pickQuote (problemOf ws) t f)
+  week-bounded : (t out : ℕ) → t < layoutOf ws .weeks → (f : Pick) → IsPick (problemOf ws) t (has out) f
+      → Bounded (pickQuote (problemOf ws) t (has out) f)
   unfolding pickQuote
   week-bounded t out h nothing s = tt
   week-bounded t out h (picked r) s =
       let few : problemOf ws .units ≤ 16 = ranged ws e .units-most in
       let m : 2 ^ problemOf ws .units ≤ 2 ^ 16 = pow-mono few in
-      (omega (arith, s .serves .run .units), omega (arith, run-small ws (layoutOf ws) t (filed ws (layoutOf ws) e refl) h r))
+      (omega (arith, s .serves .run .units), omega (arith, served-small ws (layoutOf ws) t (has out) (filed ws (layoutOf ws) e refl) h r (s .serves)))
 
   -- the quote for a week of an accepted file
   pub run-bounded : (week out : ℕ) → Bounded (runQuote (problemOf ws) week out)
@@ -48,7 +49,7 @@ module _ (ws : List ℕ) (e : readOf ws ≡ accepted) where
   run-bounded week out = by (among (problemOf ws .weeks) week) refl
     where
       by : (b : Bool) → among (problemOf ws .weeks) week ≡ b
-          → Bounded (if b (pickQuote (problemOf ws) (week - 1) (cheapestRun (problemOf ws) (week - 1) (has out))) none)
+          → Bounded (if b (pickQuote (problemOf ws) (week - 1) (has out) (cheapestRun (problemOf ws) (week - 1) (has out))) none)
       by false q = tt
       by true q =
           let some = among-some (problemOf ws .weeks) week q in

@@ -28,7 +28,7 @@ use Rattle.decoder.specs.Answers.{verdictOf}
 use Rattle.commitment.specs.declared.Found.{Found}
 use Rattle.commitment.specs.declared.Found.the-variants.{Nothing, Run}
 use Rattle.commitment.specs.Answers.{Answers}
-use Rattle.commitment.proofs.ScoreLaws.{run-small}
+use Rattle.commitment.proofs.ScoreLaws.{served-small}
 use Rattle.quotes.specs.Quotes.{Quoted, none, quoted, denied, quoteWith, among, pickQuote, runQuote, startQuote, upkeepQuote}
 
 -- ---- one of 1, .., n
@@ -88,7 +88,7 @@ module _ (ws : List ℕ) (l : Layout) (week out : ℕ) (f : Filed ws l) where
       run-fits =
           let b = subst (Answers (problemOf ws) (week - 1) (has out)) e a in
           let d : week - 1 < l .weeks = omega arith in
-          omega (arith, b .1, run-small ws l (week - 1) f d r)
+          omega (arith, b .1, served-small ws l (week - 1) (has out) f d r (b .0 .serves))
 
 -- ---- an overhaul
 

@@ -9,7 +9,7 @@ use lib.ListN.{length, getD, drop}
 use lib.Dec.{leb}
 use Rattle.sums.specs.Logic.{if}
 use Rattle.sums.specs.Range.{listTo}
-use Rattle.sums.specs.NumSet.{has}
+use Rattle.sums.specs.NumSet.{NumSet, has}
 use Rattle.model.specs.Problem.{Problem}
 use Rattle.model.specs.Domain.{permitted}
 use Rattle.model.specs.Plan.{upkeep}
@@ -33,14 +33,14 @@ unfoldable pub among : ℕ → ℕ → Bool
 among n k = leb 1 k && leb k n
 
 -- a run and its cost
-unfoldable pub pickQuote : Problem → ℕ → Pick → Quoted
-pickQuote p t nothing = none
-pickQuote p t (picked r) = quoted r (runCost p t r)
+unfoldable pub pickQuote : Problem → ℕ → NumSet → Pick → Quoted
+pickQuote p t out nothing = none
+pickQuote p t out (picked r) = quoted r (runCost p t out r)
 
 -- the cheapest run of a week with these units out, where the file has the week
 unfoldable pub runQuote : Problem → (week out : ℕ) → Quoted
 unfolding among pickQuote
-runQuote p week out = if (among (p .weeks) week) (pickQuote p (week - 1) (cheapestRun p (week - 1) (has out))) none
+runQuote p week out = if (among (p .weeks) week) (pickQuote p (week - 1) (has out) (cheapestRun p (week - 1) (has out))) none
 
 -- a permitted start of unit i, from 0, and the overhaul's maintenance cost
 unfoldable pub startQuote : Problem → (i start : ℕ) → Quoted

@@ -15,7 +15,7 @@ use Rattle.sums.proofs.LogicLaws.{true-false, not-so}
 use Rattle.model.specs.declared.Layout.{Layout}
 use Rattle.model.specs.Problem.{Problem}
 use Rattle.model.specs.Words.{problemOf}
-use Rattle.model.specs.Commitment.{leastCost}
+use Rattle.model.specs.Commitment.{fullLeast}
 use Rattle.instance.specs.Filed.{Filed}
 use Rattle.instance.proofs.FiledLaws.{units-are}
 use Rattle.relaxation.specs.declared.Node.{Node}
@@ -43,7 +43,7 @@ module _ (left : List ℕ) (i low : ℕ) (y : Node) (b : Bool) (is : b ≡ has (
 
 -- of the set to start from
 pub known-start : (ws : List ℕ) (l : Layout) (u : ℕ → ℕ → ℕ) (t : ℕ) (y : Node) → Filed ws l → y .rest .0 ≡ notOut u t (has (y .out)) (l .units)
-    → y .rest .0 ≤ 67108864 → (cost : ℕ) → cost ≡ leastCost (problemOf ws) t (has (y .out)) → cost ≤ 268435456 → y .value .0 ≡ cost + y .rest .0
+    → y .rest .0 ≤ 67108864 → (cost : ℕ) → cost ≡ fullLeast (problemOf ws) t (has (y .out)) → cost ≤ 268435456 → y .value .0 ≡ cost + y .rest .0
     → Roomed (problemOf ws) (has (y .out)) (y .room) → Shut (problemOf ws) u t (has (y .out)) (problemOf ws .units) (y .shut)
     → Known (problemOf ws) u t y
 known-start ws l u t y f rest few cost e small value room shut = record {
@@ -77,7 +77,7 @@ module _ (ws xs : List ℕ) (l : Layout) (t i : ℕ) (y : Node) (f : Filed ws l)
         omega (arith, known .rest, not-out-joined (priceIn xs) t (has (y .out)) q i (problemOf ws .units) in-units not-in j)
 
     module _ (table : List ℕ) (out cost : ℕ) (z : Node) (join : (k : ℕ) → has out k ≡ (has (y .out) k || eqb k i))
-        (clashes : Clashes (problemOf ws) (l .units) table) (e : cost ≡ leastCost (problemOf ws) t (has out)) (small : cost ≤ 268435456)
+        (clashes : Clashes (problemOf ws) (l .units) table) (e : cost ≡ fullLeast (problemOf ws) t (has out)) (small : cost ≤ 268435456)
         (child : Child (priceIn xs t i) (getD table i 0) i y out cost z) where
       joined : Joins (has (y .out)) i (has (z .out))
       joined = rw (child .out-is) join
@@ -133,7 +133,7 @@ module _ (ws xs : List ℕ) (t : ℕ) (y : Node) (known : Known (problemOf ws) (
   pub low-small : (low : ℕ) → low ≤ y .value .0 → low ≤ 536870912
   low-small low h = omega (arith, known .small)
 
-  worth : y .value .0 ≡ leastCost (problemOf ws) t (has (y .out)) + notOut (priceIn xs) t (has (y .out)) (problemOf ws .units)
+  worth : y .value .0 ≡ fullLeast (problemOf ws) t (has (y .out)) + notOut (priceIn xs) t (has (y .out)) (problemOf ws .units)
   worth = omega (arith, known .value, known .rest)
 
   -- the set itself

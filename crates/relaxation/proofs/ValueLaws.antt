@@ -9,7 +9,8 @@ use Rattle.sums.specs.NumSet.{NumSet, has}
 use Rattle.model.specs.declared.Layout.{Layout}
 use Rattle.model.specs.Problem.{Problem}
 use Rattle.model.specs.Words.{problemOf}
-use Rattle.model.specs.Commitment.{Pick, nothing, picked, cheapestRun, NO_RUN, pickCost, leastCost}
+use Rattle.model.specs.Commitment.{Pick, nothing, picked, cheapestRun, NO_RUN, fullCost, pickCost, fullLeast}
+use Rattle.model.proofs.CommitmentLaws.{full-lacks}
 use Rattle.instance.specs.Filed.{Filed}
 use Rattle.instance.proofs.FiledLaws.{units-are}
 use Rattle.commitment.proofs.ScoreLaws.{run-small}
@@ -18,7 +19,6 @@ use Rattle.memo.specs.declared.Kept.the-variants.{Word}
 use Rattle.memo.specs.Memo.{Entry, Present, Looked, Wrote, OTHERS, Others, keyOf, Right}
 use Rattle.memo.proofs.EntryLaws.{empty-key, right-empty, right-kept, wrote-all}
 use Rattle.blame.specs.Priced.{WeekLeast}
-use Rattle.blame.proofs.PlacedLaws.{least-lacks}
 use Rattle.blame.proofs.BoundLaws.{week-plain}
 use Rattle.relaxation.specs.Relaxed.{Value, valueKey, Values, Recalls}
 use Rattle.relaxation.specs.Choosing.{Floor}
@@ -27,30 +27,30 @@ use Rattle.relaxation.proofs.FloorLaws.{floor-week}
 -- ---- a value
 
 -- the cheapest run's cost is one, at any prices
-pub value-plain : (ws : List ℕ) (l : Layout) (u : ℕ → ℕ → ℕ) (t out v : ℕ) → Filed ws l → t < l .weeks → v ≡ leastCost (problemOf ws) t (has out)
+pub value-plain : (ws : List ℕ) (l : Layout) (u : ℕ → ℕ → ℕ) (t out v : ℕ) → Filed ws l → t < l .weeks → v ≡ fullLeast (problemOf ws) t (has out)
     → v ≤ 268435456 → Value (problemOf ws) u t (has out) v
 value-plain ws l u t out v f h e m =
     let p = problemOf ws in
     record {
       least = rw e (week-plain p u t (has out));
       small = m;
-      none = λ n. least-lacks p t (has out) (λ r s. omega (arith, run-small ws l t f h r)) (omega arith);
+      none = λ n. full-lacks p t (has out) (λ r s. omega (arith, run-small ws l t f h r)) (omega arith);
       serves = λ n. omega arith;
     }
 
 -- a cheapest run of an accepted file costs no more than 4,000,000, where there is one
-run-cheap : (ws : List ℕ) (l : Layout) (t : ℕ) (a : NumSet) → Filed ws l → t < l .weeks → leastCost (problemOf ws) t a < NO_RUN
-    → leastCost (problemOf ws) t a ≤ 4000000
-unfolding leastCost pickCost
+run-cheap : (ws : List ℕ) (l : Layout) (t : ℕ) (a : NumSet) → Filed ws l → t < l .weeks → fullLeast (problemOf ws) t a < NO_RUN
+    → fullLeast (problemOf ws) t a ≤ 4000000
+unfolding fullLeast pickCost
 run-cheap ws l t a f h = by (cheapestRun (problemOf ws) t a)
   where
-    by : (x : Pick) → pickCost (problemOf ws) t x < NO_RUN → pickCost (problemOf ws) t x ≤ 4000000
+    by : (x : Pick) → pickCost (fullCost (problemOf ws) t) x < NO_RUN → pickCost (fullCost (problemOf ws) t) x ≤ 4000000
     by nothing b = absurd (omega arith)
     by (picked r) b = run-small ws l t f h r
 
 -- a lower bound for all sets is one too, where there is a run; prices cannot bring it to what stands for none
 pub value-chosen : (ws : List ℕ) (l : Layout) (u : ℕ → ℕ → ℕ) (t out own cost rest value v : ℕ) → Filed ws l → t < l .weeks
-    → cost ≡ leastCost (problemOf ws) t (has out) → cost < 268435456 → rest ≤ 67108864 → own ≡ out → value ≡ cost + rest → v ≤ value
+    → cost ≡ fullLeast (problemOf ws) t (has out) → cost < 268435456 → rest ≤ 67108864 → own ≡ out → value ≡ cost + rest → v ≤ value
     → Floor (problemOf ws) u t (has own) (l .units) v → Value (problemOf ws) u t (has out) v
 value-chosen ws l u t out own cost rest value v f h e less few same sum low floor =
     record {
@@ -63,7 +63,7 @@ value-chosen ws l u t out own cost rest value v f h e less few same sum low floo
     p : Problem
     p = problemOf ws
 
-    cheap : leastCost p t (has out) ≤ 4000000
+    cheap : fullLeast p t (has out) ≤ 4000000
     cheap = run-cheap ws l t (has out) f h (omega arith)
 
 -- ---- a memory of values

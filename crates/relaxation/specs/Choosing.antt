@@ -11,7 +11,7 @@ use Rattle.sums.specs.Sum.{sumTo}
 use Rattle.sums.specs.NumSet.{NumSet, pick, away, has}
 use Rattle.model.specs.Problem.{Problem}
 use Rattle.model.specs.Rules.{headcount}
-use Rattle.model.specs.Commitment.{Serves, runCost, leastCost}
+use Rattle.model.specs.Commitment.{Serves, fullCost, fullLeast}
 use Rattle.model.specs.Plan.{Compatible}
 use Rattle.relaxation.specs.declared.Node.{Node}
 
@@ -26,7 +26,7 @@ pub record Reach (p : Problem) (o : NumSet) (k : ℕ) (x : NumSet) : Type 0 wher
 
 -- v is at most what week t is worth with any set out that has the units of o, and from unit k on no other
 pub record Floor (p : Problem) (u : ℕ → ℕ → ℕ) (t : ℕ) (o : NumSet) (k v : ℕ) : Type 0 where
-  pub below : (x : NumSet) (r : ℕ) → Compatible p x → Reach p o k x → Serves p t x r → v ≤ runCost p t r + notOut u t x (p .units)
+  pub below : (x : NumSet) (r : ℕ) → Compatible p x → Reach p o k x → Serves p t x r → v ≤ fullCost p t r + notOut u t x (p .units)
 
 -- no compatible set with the units of o has unit i
 pub record Barred (p : Problem) (o : NumSet) (i : ℕ) : Type 0 where
@@ -48,7 +48,7 @@ pub record Roomed (p : Problem) (o : NumSet) (room : ℕ) : Type 0 where
 -- what is known of a set of units out
 pub record Known (p : Problem) (u : ℕ → ℕ → ℕ) (t : ℕ) (y : Node) : Type 0 where
   pub rest : y .rest .0 ≡ notOut u t (has (y .out)) (p .units)
-  pub value : y .value .0 ≡ leastCost p t (has (y .out)) + y .rest .0
+  pub value : y .value .0 ≡ fullLeast p t (has (y .out)) + y .rest .0
   pub small : y .value .0 ≤ 536870912
   pub room : Roomed p (has (y .out)) (y .room)
   pub shut : Shut p u t (has (y .out)) (p .units) (y .shut)

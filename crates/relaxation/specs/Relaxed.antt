@@ -7,7 +7,7 @@ use mathlib.Core.List.{List}
 use lib.ListN.{getD}
 use Rattle.sums.specs.NumSet.{NumSet, has}
 use Rattle.model.specs.Problem.{Problem}
-use Rattle.model.specs.Commitment.{leastCost, NoRun, NO_RUN}
+use Rattle.model.specs.Commitment.{fullLeast, NoRun, NO_RUN}
 use Rattle.memo.specs.Memo.{OTHERS, keyOf, Right}
 use Rattle.blame.specs.Priced.{WeekLeast}
 
@@ -24,7 +24,7 @@ pub record Value (p : Problem) (u : ℕ → ℕ → ℕ) (t : ℕ) (a : NumSet) 
   pub least : WeekLeast p u t a v
   pub small : v ≤ NO_RUN
   pub none : NO_RUN ≤ v → NoRun p t a
-  pub serves : v < NO_RUN → leastCost p t a < NO_RUN
+  pub serves : v < NO_RUN → fullLeast p t a < NO_RUN
 
 -- the key of such a value
 unfoldable pub valueKey : (t out : ℕ) → ℕ

@@ -12,7 +12,7 @@ ghost use lib.ListN.{getD};
 ghost use Rattle.sums.specs.Sum.{countsOne};
 ghost use Rattle.sums.specs.NumSet.{has, pick, away};
 ghost use Rattle.model.specs.Words.{problemOf};
-ghost use Rattle.model.specs.Commitment.{leastCost};
+ghost use Rattle.model.specs.Commitment.{fullLeast};
 ghost use Rattle.instance.specs.Filed.{Filed};
 ghost use Rattle.memo.specs.Memo.{Right, Others};
 ghost use Rattle.relaxation.specs.Relaxed.{priceIn, Prices, Value, valueKey, Recalls};
@@ -257,7 +257,7 @@ fn choose_with(
         return low;
     }
     let out = sets::with(y.out, i);
-    let cost = memo::least_cost(words, l, t, out, memo);
+    let cost = memo::full_least(words, l, t, out, memo);
     let z = child(prices, clashes, t, i, y, out, cost);
     choose(words, l, prices, clashes, left, t, i, z, low, memo)
 }
@@ -312,7 +312,7 @@ fn root(
     requires { ⌜ Filed (now words) l ⌝ }
     requires { ⌜ t < l .weeks ⌝ }
     requires { ⌜ Prices (now prices) × Clashes (problemOf (now words)) (l .units) (now clashes) ⌝ }
-    requires { ⌜ (cost .0 ≡ leastCost (problemOf (now words)) t (has out)) × (cost .0 ≤ 268435456) ⌝ }
+    requires { ⌜ (cost .0 ≡ fullLeast (problemOf (now words)) t (has out)) × (cost .0 ≤ 268435456) ⌝ }
     requires { ⌜ (rest .0 ≡ notOut (priceIn (now prices)) t (has out) (l .units)) × (rest .0 ≤ 67108864) ⌝ }
     ensures known { λ r. ⌜ Known (problemOf (now (words .entry))) (priceIn (now (prices .entry))) t r ⌝ }
     ensures sum { λ r. ⌜ (r .out ≡ out) × (r .value .0 ≡ cost .0 + rest .0) ⌝ }
@@ -345,7 +345,7 @@ pub fn best_choice(
     ensures answer { λ r. ⌜ Value (problemOf (now (words .entry))) (priceIn (now (prices .entry))) t (has out) (r .value .0) ⌝ }
     ensures right { λ r. ⌜ Right (problemOf (now (words .entry))) (now (memo .exit)) × Others (now (memo .entry)) (now (memo .exit)) ⌝ }
 {
-    let cost = memo::least_cost(words, l, t, out, memo);
+    let cost = memo::full_least(words, l, t, out, memo);
     // 2^28 stands for no run.
     if 268435456 <= cost.0 {
         return Choice { value: cost, out };

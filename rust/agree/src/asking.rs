@@ -1,6 +1,7 @@
 //! Files to ask about, the ceilings, budgets and lists of asks that tell something on them, and
 //! words to lend that are as misleading as can be.
 
+use crate::off_costs::cost_rows;
 use crate::plans::{tied_plan, tiny_plan};
 use crate::queries::{all_queries, dirty_scratch};
 use crate::schedules::fitted;
@@ -50,7 +51,7 @@ fn make_peculiar(plan: &mut Plan, random: &mut Random) {
     let top = random.within(0, 1);
     match random.within(0, 11) {
         0 | 1 => {
-            for row in plan.maint.iter_mut().chain(&mut plan.running) {
+            for row in cost_rows(plan) {
                 row.fill_with(|| random.within(0, top));
             }
         }

@@ -3,6 +3,7 @@
 
 use crate::compare::shown;
 use crate::judgements::proved_judgement;
+use crate::off_costs::OffCounts;
 use reference::{
     accept, block_len, check_run, lay_out, read, runs_of, starts_of, Ask, Checked, Conflict,
     Judgement, Lent, Plan, Refusal, Status, Survey,
@@ -104,8 +105,9 @@ struct Left<'a> {
 
 /// The runs that were answered rightly and those that were refused rightly, by number; the asks by
 /// status, and how many were settled by those before them; how many plans cost nothing, how many
-/// conflicts with and without choices were left, and how many tables were full to the last word. A
-/// test that asserts on them cannot pass by comparing nothing.
+/// conflicts with and without choices were left, how many tables were full to the last word, and how
+/// many runs were on files of each class of OFF costs. A test that asserts on them cannot pass by
+/// comparing nothing.
 #[derive(Default)]
 pub struct Answers {
     runs: usize,
@@ -117,6 +119,7 @@ pub struct Answers {
     noted: usize,
     concluded: usize,
     full: usize,
+    off: OffCounts,
 }
 
 impl Answers {
@@ -162,6 +165,7 @@ impl Answers {
     /// Counts a run that is right.
     fn count(&mut self, plan: &Plan, checked: &Checked, left: &Left) {
         self.runs += 1;
+        self.off.add(plan);
         for &status in &checked.statuses {
             *self.answered.entry(status).or_default() += 1;
         }
@@ -211,6 +215,11 @@ impl Answers {
         self.full
     }
 
+    /// How many runs were on files of each class of OFF costs.
+    pub fn off(&self) -> &OffCounts {
+        &self.off
+    }
+
     /// The refusal numbers that arose, rising.
     pub fn refusals(&self) -> Vec<u32> {
         self.refused.keys().copied().collect()
@@ -225,7 +234,7 @@ impl Answers {
     pub fn report(&self, what: &str) {
         println!(
             "{what}: {} runs, {:?}, {} asks settled, {} plans cost nothing, {} conflicts with \
-             choices, {} without, {} full tables, refusals {:?} at {} places",
+             choices, {} without, {} full tables, refusals {:?} at {} places, {}",
             self.runs,
             self.answered,
             self.settled,
@@ -234,7 +243,8 @@ impl Answers {
             self.concluded,
             self.full,
             self.refused,
-            self.places.len()
+            self.places.len(),
+            self.off
         );
     }
 }

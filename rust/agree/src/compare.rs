@@ -1,5 +1,6 @@
 //! The comparison: the proved reader's verdict held against the reference's, number and place.
 
+use crate::off_costs::OffCounts;
 use reference::{kind_of, read, value_of, Refusal};
 use std::collections::BTreeSet;
 use std::fmt::Arguments;
@@ -15,19 +16,22 @@ pub fn proved_verdict(words: &[u32]) -> Verdict {
     })
 }
 
-/// The verdicts on which both readers agreed, counted by refusal number, and the places of the
-/// refusals. A test that asserts on them cannot pass by comparing nothing.
+/// The verdicts on which both readers agreed, counted by refusal number, the places of the refusals,
+/// and the classes of OFF costs in files that were accepted. A test that asserts on them cannot pass
+/// by comparing nothing.
 #[derive(Default)]
 pub struct Counts {
     accepted: usize,
     refused: [usize; 8],
     places: BTreeSet<usize>,
+    off: OffCounts,
 }
 
 impl Counts {
     /// The verdict that both readers give; panics, with the origin and the file, where they differ.
     pub fn agreed(&mut self, words: &[u32], origin: Arguments) -> Verdict {
-        let expected = read(words).map(|_| ());
+        let plan = read(words);
+        let expected = plan.as_ref().map(|_| ()).map_err(|&refusal| refusal);
         let proved = proved_verdict(words);
         assert_eq!(
             proved,
@@ -35,11 +39,12 @@ impl Counts {
             "proved, then reference, on {origin}: {}",
             shown(words)
         );
-        match expected {
-            Ok(()) => {
+        match plan {
+            Ok(plan) => {
                 let place = ffi::read_place(words);
                 assert_eq!(place, 0, "accepted has place 0, on {origin}");
                 self.accepted += 1;
+                self.off.add(&plan);
             }
             Err(refusal) => {
                 self.refused[refusal.number as usize] += 1;
@@ -52,6 +57,11 @@ impl Counts {
     /// How many files were accepted.
     pub fn accepted(&self) -> usize {
         self.accepted
+    }
+
+    /// How many of the files accepted had OFF costs of each class.
+    pub fn off(&self) -> &OffCounts {
+        &self.off
     }
 
     /// How many files were compared.
@@ -72,11 +82,12 @@ impl Counts {
     /// Prints the counts, for those who run the tests with their output shown.
     pub fn report(&self, what: &str) {
         println!(
-            "{what}: {} files, {} accepted, refusals 1 to 7: {:?}, places: {}",
+            "{what}: {} files, {} accepted, refusals 1 to 7: {:?}, places: {}, {}",
             self.total(),
             self.accepted,
             &self.refused[1..],
-            self.places()
+            self.places(),
+            self.off
         );
     }
 }

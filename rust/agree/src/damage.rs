@@ -1,8 +1,8 @@
 //! Ways to damage a file: one word replaced by each telling one, several words edited at random,
-//! or every word random from some place on.
+//! every word random from some place on, or the OFF costs alone.
 
 use crate::Random;
-use reference::{kind_of, value_of, word, Plan};
+use reference::{encode, kind_of, value_of, word, Plan, Refusal};
 
 const HIGHEST: u32 = (1 << 28) - 1;
 
@@ -73,7 +73,7 @@ pub fn near(old: u32, plan: &Plan, random: &mut Random) -> u32 {
         5 => random.edgy(0, 1_000_001),
         6 => random.within(0, past_weeks) * 64 + random.within(0, past_weeks),
         7 => random.within(0, past_weeks),
-        8 | 9 => random.edgy(0, 250_001),
+        0 | 8 | 9 => random.edgy(0, 250_001),
         10 => random.within(0, past_units) * 32 + random.within(0, past_units),
         _ => (value_of(old) + random.within(0, 2)).saturating_sub(1),
     };
@@ -85,6 +85,40 @@ pub fn recounted(mut words: Vec<u32>) -> Vec<u32> {
     words.pop();
     words.push(word(15, words.len() as u32));
     words
+}
+
+/// The file of a plan that has OFF costs with these damaged, in each way that there is and with the
+/// refusal that is due: fewer of them, one too many, one of another kind, one too high.
+pub fn off_damages(plan: &Plan) -> Vec<(Vec<u32>, Refusal)> {
+    let words = encode(plan);
+    let cells = (plan.weeks * plan.units) as usize;
+    let first = words.len() - 1 - plan.pairs.len() - cells;
+    let mut damages = vec![];
+    let mut add = |words: Vec<u32>, number, place| damages.push((words, Refusal { number, place }));
+    for count in 1..cells {
+        let fewer = [&words[..first + count], &words[first + cells..]].concat();
+        add(recounted(fewer), 1, first + count);
+    }
+    for cost in [0, 250_000, HIGHEST] {
+        let mut more = words.clone();
+        more.insert(first + cells, word(0, cost));
+        add(recounted(more), 1, first + cells);
+    }
+    for place in first..first + cells {
+        let with = |new: u32| {
+            let mut words = words.clone();
+            words[place] = new;
+            words
+        };
+        for high in [250_001, HIGHEST] {
+            add(with(word(0, high)), 2, place);
+        }
+        // another kind in front is no OFF cost, and leaves all of them out
+        for kind in (1..16).filter(|_| place > first) {
+            add(with(word(kind, value_of(words[place]))), 1, place);
+        }
+    }
+    damages
 }
 
 /// The words after 1 to 4 random edits: a word replaced, two swapped, one deleted, one inserted.

@@ -2,7 +2,8 @@
 //! the formula, or the refusal's number and place.
 
 use crate::compare::shown;
-use reference::{judge, Judgement, Refusal};
+use crate::off_costs::OffCounts;
+use reference::{judge, read, Judgement, Refusal};
 use std::collections::BTreeMap;
 use std::fmt::Arguments;
 
@@ -19,13 +20,14 @@ pub fn proved_judgement(words: &[u32], grid: &[u8]) -> Judgement {
 }
 
 /// The judgements on which both judges agreed: how many were sound, how many broke each formula,
-/// and how many were refused for each cause. A test that asserts on them cannot pass by comparing
-/// nothing.
+/// how many were refused for each cause, and the classes of OFF costs of those that were sound. A
+/// test that asserts on them cannot pass by comparing nothing.
 #[derive(Default)]
 pub struct Judgements {
     sound: usize,
     broken: BTreeMap<u32, usize>,
     refused: BTreeMap<u32, usize>,
+    off: OffCounts,
 }
 
 impl Judgements {
@@ -41,7 +43,10 @@ impl Judgements {
             shown(words)
         );
         match expected {
-            Judgement::Sound(_) => self.sound += 1,
+            Judgement::Sound(_) => {
+                self.sound += 1;
+                read(words).iter().for_each(|plan| self.off.add(plan));
+            }
             Judgement::Breaks(number) => *self.broken.entry(number).or_default() += 1,
             Judgement::Rejected(refusal) => *self.refused.entry(refusal.number).or_default() += 1,
         }
@@ -55,6 +60,11 @@ impl Judgements {
     /// How many grids were sound.
     pub fn sound(&self) -> usize {
         self.sound
+    }
+
+    /// How many sound grids were of files of each class of OFF costs.
+    pub fn off(&self) -> &OffCounts {
+        &self.off
     }
 
     /// How many grids were compared.
@@ -75,11 +85,12 @@ impl Judgements {
     /// Prints the counts, for those who run the tests with their output shown.
     pub fn report(&self, what: &str) {
         println!(
-            "{what}: {} grids, {} sound, formulas {:?}, refusals {:?}",
+            "{what}: {} grids, {} sound, formulas {:?}, refusals {:?}, {}",
             self.total(),
             self.sound,
             self.broken,
-            self.refused
+            self.refused,
+            self.off
         );
     }
 }

@@ -1,6 +1,6 @@
-//! What the tests of the proved code against the reference share: files to read, ways to damage
-//! them, grids to judge, queries on weeks, asks, the comparisons, and the programs. The tests are in
-//! `tests`, one file a subject.
+//! What the tests of the proved code against the reference share: files to read, OFF costs of every
+//! class, ways to damage files, grids to judge, queries on weeks, asks, the comparisons, and the
+//! programs. The tests are in `tests`, one file a subject.
 
 mod asking;
 mod asks;
@@ -10,6 +10,7 @@ mod damage;
 mod grids;
 mod judgements;
 mod large;
+mod off_costs;
 mod plans;
 mod programs;
 mod queries;
@@ -25,10 +26,11 @@ pub use asking::{
 pub use asks::{proved_asks, Answers, AskedFile, Buffers, ListAnswer};
 pub use breaches::{breaches, Case};
 pub use compare::{proved_verdict, Counts, Verdict};
-pub use damage::{edited, near, random_from, recounted, replacements};
+pub use damage::{edited, near, off_damages, random_from, recounted, replacements};
 pub use grids::{all_grids, cells_of, edited_grid, random_grid};
 pub use judgements::{proved_judgement, Judgements};
 pub use large::{asks_around, KnownFile};
+pub use off_costs::{choose_off, cost_rows, thrifty_units, OffClass, OffCounts};
 pub use plans::{all_pairs, border_plans, largest, random_plan, small_plans, tied_plan, tiny_plan};
 pub use programs::printed;
 pub use queries::{all_queries, dirty_scratch, query, random_queries};

@@ -1,13 +1,16 @@
 //! Plans whose files are accepted: smallest, largest, at the borders of the ranges, random.
 
+use crate::off_costs::choose_off;
 use crate::Random;
 use reference::{example_a, smallest, Plan};
 
-/// The plan with the longest file: 52 weeks, 16 units, 120 pairs, every value the largest.
+/// The plan with the longest file: 52 weeks, 16 units, OFF costs, 120 pairs, every value the
+/// largest.
 pub fn largest() -> Plan {
     Plan {
         demand: vec![16_000_000; 52],
         capacity: vec![1_000_000; 16],
+        off: Some(vec![vec![250_000; 16]; 52]),
         pairs: all_pairs(16),
         ..filled(52, 16, 16, 250_000, (1, 52), 52)
     }
@@ -23,17 +26,13 @@ fn filled(
 ) -> Plan {
     let (by_week, by_unit) = (weeks as usize, units as usize);
     Plan {
-        weeks,
-        units,
         crews,
-        demand: vec![0; by_week],
-        capacity: vec![0; by_unit],
         earliest: vec![earliest; by_unit],
         latest: vec![latest; by_unit],
         duration: vec![duration; by_unit],
         maint: vec![vec![cost; by_unit]; by_week],
         running: vec![vec![cost; by_unit]; by_week],
-        pairs: vec![],
+        ..smallest(weeks, units)
     }
 }
 
@@ -60,6 +59,19 @@ pub fn small_plans() -> Vec<Plan> {
         ..smallest(1, 16)
     };
     let late_window = filled(5, 1, 1, 7, (5, 5), 5);
+    let free_off = Plan {
+        off: Some(vec![vec![0; 2]; 2]),
+        ..filled(2, 2, 1, 3, (1, 2), 1)
+    };
+    let one_off = Plan {
+        off: Some(vec![vec![250_000]]),
+        ..smallest(1, 1)
+    };
+    let off_and_pairs = Plan {
+        off: Some((1..=3).map(|week| vec![99 + week; 3]).collect()),
+        pairs: vec![(1, 2), (2, 3)],
+        ..filled(3, 3, 3, 101, (1, 3), 2)
+    };
     vec![
         example_a(),
         smallest(1, 1),
@@ -69,6 +81,9 @@ pub fn small_plans() -> Vec<Plan> {
         late_window,
         smallest(52, 1),
         filled(4, 3, 3, 100, (2, 3), 2),
+        free_off,
+        one_off,
+        off_and_pairs,
     ]
 }
 
@@ -88,17 +103,19 @@ pub fn border_plans() -> Vec<Plan> {
     plans
 }
 
-/// One plan for each kind of value, with that value at the top of its range.
+/// One plan for each kind of value, with that value at the top of its range; OFF costs of 0 too.
 fn at_the_top(weeks: u32, units: u32) -> Vec<Plan> {
     let base = smallest(weeks, units);
     let (by_week, by_unit) = (weeks as usize, units as usize);
-    let mut plans = vec![base; 6];
+    let mut plans = vec![base; 8];
     plans[0].crews = 16;
     plans[1].demand = vec![16_000_000; by_week];
     plans[2].capacity = vec![1_000_000; by_unit];
     plans[3].duration = vec![weeks; by_unit];
     plans[4].maint = vec![vec![250_000; by_unit]; by_week];
     plans[5].running = vec![vec![250_000; by_unit]; by_week];
+    plans[6].off = Some(vec![vec![0; by_unit]; by_week]);
+    plans[7].off = Some(vec![vec![250_000; by_unit]; by_week]);
     plans
 }
 
@@ -128,6 +145,7 @@ fn with_border_pairs(units: u32) -> Vec<Plan> {
 }
 
 /// A plan of at most the given size, its values anywhere in their ranges and often at their ends.
+/// This and all that follow have OFF costs of any class.
 pub fn random_plan(random: &mut Random, most_weeks: u32, most_units: u32) -> Plan {
     let weeks = random.edgy(1, most_weeks);
     let units = random.edgy(1, most_units);
@@ -140,6 +158,7 @@ pub fn random_plan(random: &mut Random, most_weeks: u32, most_units: u32) -> Pla
         fill(row, || random.edgy(0, 250_000));
     }
     plan.pairs = random_pairs(random, units);
+    choose_off(&mut plan, random);
     plan
 }
 
@@ -155,6 +174,7 @@ pub fn tiny_plan(random: &mut Random, weeks: u32, units: u32) -> Plan {
         fill(row, || random.edgy(0, 9));
     }
     plan.pairs = random_pairs(random, units);
+    choose_off(&mut plan, random);
     plan
 }
 
@@ -172,6 +192,7 @@ pub fn tied_plan(random: &mut Random, weeks: u32, units: u32) -> Plan {
         *demand = tight_demand(&plan.capacity, random);
     }
     plan.pairs = random_pairs(random, units);
+    choose_off(&mut plan, random);
     plan
 }
 

@@ -1,5 +1,6 @@
 //! Queries on weeks, and words to lend as scratch to the call that answers them.
 
+use crate::off_costs::thrifty_units;
 use crate::Random;
 use reference::Plan;
 
@@ -20,13 +21,13 @@ pub fn all_queries(plan: &Plan) -> Vec<u32> {
 }
 
 /// As many queries, at least one: many are repeated at once or later, others follow with the same
-/// set in the next week or with one unit more or less, and some have weeks or units that the plan
-/// has not.
+/// set in the next week or with one unit more or less, some have units out that cost less running
+/// than OFF, all of them or some, and some have weeks or units that the plan has not.
 pub fn random_queries(plan: &Plan, count: usize, random: &mut Random) -> Vec<u32> {
     let mut queries = vec![random_query(plan, random)];
     while queries.len() < count {
         let (earlier, last) = (random.place(queries.len()), queries.len() - 1);
-        queries.push(match random.within(0, 9) {
+        queries.push(match random.within(0, 10) {
             0 | 1 => queries[earlier],
             2 => queries[last],
             3 => queries[earlier].wrapping_add(SETS),
@@ -34,10 +35,23 @@ pub fn random_queries(plan: &Plan, count: usize, random: &mut Random) -> Vec<u32
             5 => queries[last] ^ 1 << random.within(0, plan.units - 1),
             6 => queries[last] ^ 1 << random.within(0, 15),
             7 => random.word(),
+            8 => thrifty_query(plan, random),
             _ => random_query(plan, random),
         });
     }
     queries
+}
+
+/// Units out of one of the plan's weeks that cost less running than OFF, all of them or some.
+fn thrifty_query(plan: &Plan, random: &mut Random) -> u32 {
+    let week = random.within(1, plan.weeks);
+    let thrifty = thrifty_units(plan, week as usize);
+    let some = if random.once_in(2) {
+        u32::MAX
+    } else {
+        random.word()
+    };
+    query(week, thrifty & some)
 }
 
 /// Any set of the plan's units out of one of its weeks.

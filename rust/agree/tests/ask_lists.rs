@@ -3,12 +3,13 @@
 //! dirty words and in cleared ones; every refusal in its order, and damaged files, lists and memory.
 
 use agree::{
-    asked_plan, asks_around, dirty_buffers, edited, many_units, proved_asks, random_scheduled,
-    seeds_for, smallest, staggered, telling_asks, telling_ceilings, Answers, AskedFile, Buffers,
-    KnownFile, Random, MOST,
+    asked_plan, asks_around, cost_rows, dirty_buffers, edited, many_units, proved_asks,
+    random_scheduled, seeds_for, smallest, staggered, telling_asks, telling_ceilings, Answers,
+    AskedFile, Buffers, KnownFile, OffClass, OffCounts, Random, MOST,
 };
 use reference::{
-    ask_words, block_len, encode, example_a_words, word, words_from, Ask, Plan, Refusal, Status,
+    ask_words, block_len, encode, example_a, example_a_words, word, words_from, Ask, Plan, Refusal,
+    Status,
 };
 use std::collections::BTreeMap;
 
@@ -112,6 +113,32 @@ fn every_list_of_three_asks_on_file_a_agrees() {
     assert!(answers.got(Status::Best) > 1000 && answers.got(Status::Spent) > 1000);
 }
 
+/// Lists of two of the asks that tell something on file A, with OFF costs of each class.
+#[test]
+fn lists_of_two_asks_on_file_a_with_off_costs_agree() {
+    let mut answers = Answers::default();
+    let mut random = Random::seeded(0);
+    for class in OffClass::ALL.repeat(3) {
+        let mut plan = example_a();
+        plan.off = class.costs(&plan.running, &mut random);
+        let mut file = AskedFile::new(encode(&plan));
+        let ceilings = telling_ceilings(file.survey(), &mut random);
+        let all: Vec<Ask> = ceilings
+            .iter()
+            .flat_map(|&ceiling| [1, 2, 3, 6, 12].map(|budget| Ask { ceiling, budget }))
+            .collect();
+        for number in 0..all.len().pow(2) {
+            let asks = [number / all.len(), number % all.len()].map(|place| all[place]);
+            let table = TABLES[number % 3];
+            statuses(&mut answers, &mut file, &asks, table, &mut random, 0);
+        }
+    }
+    answers.report("lists of two asks on file A with OFF costs");
+    assert!(answers.got(Status::Plan) > 2000 && answers.got(Status::None) > 2000);
+    assert!(answers.got(Status::Best) > 500 && answers.got(Status::Spent) > 500);
+    assert!(answers.off().rarest() > 1500);
+}
+
 #[test]
 fn random_lists_on_small_files_agree() {
     let what = "random lists on small files";
@@ -134,6 +161,7 @@ fn random_lists_on_small_files_agree() {
     assert!(answers.got(Status::Best) > 500 && answers.got(Status::Spent) > 1000);
     assert!(answers.settled() > 10_000 && answers.free() > 1000);
     assert!(answers.noted() > 2000 && answers.concluded() > 4000);
+    assert!(answers.off().rarest() > 600);
 }
 
 /// Four or five units that may start in most weeks, so that asks are spent again and again, each
@@ -165,6 +193,7 @@ fn random_lists_on_files_with_many_places_agree() {
     assert!(answers.got(Status::Plan) > 100 && answers.got(Status::None) > 100);
     assert!(answers.got(Status::Best) > 20 && answers.got(Status::Spent) > 50);
     assert!(answers.noted() > 500 && answers.concluded() > 50);
+    assert!(answers.off().rarest() > 80);
 }
 
 /// Dead ends with more than eight units to blame, and tables that one ask fills for the next.
@@ -183,16 +212,18 @@ fn random_lists_on_files_with_many_units_agree() {
     assert!(answers.settled() > 100 && answers.noted() > 200);
     assert!(answers.got(Status::Plan) > 50 && answers.got(Status::None) > 50);
     assert!(answers.got(Status::Best) + answers.got(Status::Spent) > 100);
+    assert!(answers.off().rarest() > 10);
 }
 
 /// Up to 14 units over up to 52 weeks, where a schedule is known but not all of them.
 #[test]
 fn lists_on_large_files_agree_with_a_known_schedule() {
     let mut counts = BTreeMap::<Status, usize>::new();
-    let mut conflicts = 0;
-    for seed in 0..60 {
+    let (mut conflicts, mut off) = (0, OffCounts::default());
+    for seed in 0..90 {
         let mut random = Random::seeded(seed);
         let file = KnownFile::new(&random_scheduled(&mut random, 52, 14));
+        off.add(file.plan());
         let table = one_of(&TABLES, &mut random);
         let count = random.within(1, 12);
         let asks = asks_around(file.cost(), count, 20_000, &mut random);
@@ -208,9 +239,9 @@ fn lists_on_large_files_agree_with_a_known_schedule() {
         said.into_iter()
             .for_each(|status| *counts.entry(status).or_default() += 1);
     }
-    println!("large files: {counts:?}, {conflicts} conflicts");
+    println!("large files: {counts:?}, {conflicts} conflicts, {off}");
     assert!(counts.len() == 4 && counts.values().all(|&count| count > 5));
-    assert!(conflicts > 100);
+    assert!(conflicts > 100 && off.rarest() > 8);
 }
 
 /// As many ceilings as there may be, each a euro above the last: each ask walks, and the last finds
@@ -243,8 +274,7 @@ fn the_shortest_table_has_room_for_32_walks_that_end() {
             plan.earliest.fill(1);
             plan.latest.fill(4);
             plan.duration.fill(1);
-            let costs = plan.maint.iter_mut().chain(&mut plan.running);
-            costs.for_each(|row| row.fill_with(|| random.within(5, 40)));
+            cost_rows(&mut plan).for_each(|row| row.fill_with(|| random.within(5, 40)));
         }
         let mut file = AskedFile::new(encode(&plan));
         if let Some(asks) = rising(&file) {
@@ -269,7 +299,7 @@ fn plans_that_cost_nothing_settle_all_later_asks() {
         let mut random = Random::seeded(seed);
         let mut plan = listed_plan(seed, &mut random);
         let top = u32::from(random.once_in(3));
-        for row in plan.maint.iter_mut().chain(&mut plan.running) {
+        for row in cost_rows(&mut plan) {
             row.fill_with(|| random.within(0, top));
         }
         let mut file = AskedFile::new(encode(&plan));
@@ -612,5 +642,5 @@ fn ceilings_that_rise_or_fall_through_all_costs_agree() {
     }
     answers.report("ceilings that rise or fall");
     assert!(answers.got(Status::Plan) > 500 && answers.got(Status::None) > 500);
-    assert!(answers.settled() > 500);
+    assert!(answers.settled() > 500 && answers.off().rarest() > 60);
 }

@@ -3,9 +3,9 @@
 //! refusal, and damaged files.
 
 use agree::{
-    asked_plan, dirty_buffers, dirty_table, edited, leave_no_start, many_units, proved_asks,
-    replacements, small_plans, smallest, staggered, telling_budgets, telling_ceilings, together,
-    Answers, AskedFile, Buffers, ListAnswer, Random, MOST,
+    asked_plan, cost_rows, dirty_buffers, dirty_table, edited, leave_no_start, many_units,
+    off_damages, proved_asks, replacements, small_plans, smallest, staggered, telling_budgets,
+    telling_ceilings, together, Answers, AskedFile, Buffers, ListAnswer, OffClass, Random, MOST,
 };
 use reference::{block_len, encode, example_a, example_a_words, word, Plan, Refusal, Status};
 
@@ -118,6 +118,65 @@ fn the_worked_figures_hold() {
     assert_eq!(block_of(&smallest(1, 2), MOST), [2, 0, 0, 0, 0, 0, 0]);
 }
 
+/// Figures by hand: OFF costs move an overhaul to week 2, since the unit is cheap to run in week 1,
+/// which nobody needs it to do; it stays OFF there where that costs the same.
+#[test]
+fn off_costs_change_the_plan() {
+    let plan = |off: u32| Plan {
+        latest: vec![2],
+        maint: vec![vec![5], vec![6]],
+        running: vec![vec![1], vec![4]],
+        off: Some(vec![vec![off], vec![3]]),
+        ..smallest(2, 1)
+    };
+    assert_eq!(block_of(&plan(3), MOST), [1, 7, 2, 1, 0, 0]);
+    assert_eq!(block_of(&plan(3), 7), [1, 7, 2, 1, 0, 0]);
+    assert_eq!(block_of(&plan(3), 6), [2, 0, 0, 0, 0, 0]);
+    assert_eq!(block_of(&plan(1), MOST), [1, 7, 2, 0, 0, 0]);
+    let without = Plan {
+        off: None,
+        ..plan(3)
+    };
+    assert_eq!(block_of(&without, MOST), [1, 5, 1, 0, 0, 0]);
+    // file A: all that are not out run where OFF costs 5, one alone where it costs 2
+    let with_off = |off| Plan {
+        off: Some(vec![vec![off; 2]; 3]),
+        ..example_a()
+    };
+    assert_eq!(block_of(&with_off(5), 100), [1, 23, 2, 1, 1, 2, 3, 0, 0]);
+    assert_eq!(block_of(&with_off(2), 100), [1, 21, 2, 1, 1, 2, 1, 0, 0]);
+}
+
+/// Telling ceilings with every budget, on tiny files with OFF costs of each class.
+#[test]
+fn every_budget_of_tiny_files_with_off_costs_of_each_class_agrees() {
+    for class in OffClass::ALL {
+        let answers = sweep_seeds(60, |seed, random| {
+            let (units, weeks) = tiny_size(seed);
+            let mut plan = asked_plan(random, weeks, units);
+            plan.off = class.costs(&plan.running, random);
+            plan
+        });
+        answers.report(&format!("every budget of tiny files, {class:?} OFF costs"));
+        assert!(answers.got(Status::Plan) > 100 && answers.got(Status::None) > 100);
+        assert!(answers.got(Status::Best) + answers.got(Status::Spent) > 10);
+        assert!(answers.noted() > 10);
+    }
+}
+
+/// The refusal of each damage of OFF costs stands before all else that is wrong with an ask.
+#[test]
+fn damaged_off_costs_are_refused() {
+    for plan in small_plans().iter().filter(|plan| plan.off.is_some()) {
+        for (damaged, refusal) in off_damages(plan) {
+            let (mut answers, mut file) = (Answers::default(), AskedFile::new(damaged));
+            let mut lent = alike(1, 1, 1);
+            let said = answers.agreed(&mut file, &[0; 3], &mut lent, format_args!("OFF costs"));
+            assert_eq!(said, Err(refusal));
+        }
+    }
+}
+
 /// Of file A every ceiling up to above its dearest schedule and every budget up to above its number
 /// of places, with each length of table.
 #[test]
@@ -154,6 +213,7 @@ fn every_budget_of_tiny_files_agrees() {
     assert!(answers.got(Status::Plan) > 500 && answers.got(Status::None) > 500);
     assert!(answers.got(Status::Best) > 10 && answers.got(Status::Spent) > 10);
     assert!(answers.free() > 50 && answers.noted() > 100);
+    assert!(answers.off().rarest() > 500);
 }
 
 #[test]
@@ -165,7 +225,7 @@ fn some_budgets_of_small_files_agree() {
     answers.report("some budgets of small files");
     assert!(answers.got(Status::Plan) > 200 && answers.got(Status::None) > 200);
     assert!(answers.got(Status::Best) > 10 && answers.got(Status::Spent) > 10);
-    assert!(answers.noted() > 500);
+    assert!(answers.noted() > 500 && answers.off().rarest() > 100);
 }
 
 /// Many places and few asks on each file, also with the longest table.
@@ -189,7 +249,7 @@ fn some_asks_on_files_with_many_places_agree() {
     answers.report("some asks on files with many places");
     assert!(answers.got(Status::Plan) > 20 && answers.got(Status::None) > 20);
     assert!(answers.got(Status::Best) + answers.got(Status::Spent) > 20);
-    assert!(answers.noted() > 500);
+    assert!(answers.noted() > 500 && answers.off().rarest() > 20);
 }
 
 /// Every figure 0 or 1, so that most schedules cost the same; every ceiling up to the dearest.
@@ -206,7 +266,7 @@ fn of_many_schedules_of_equal_cost_the_earliest_is_given() {
         plan.capacity.fill_with(|| random.within(0, 1));
         plan.demand.fill_with(|| random.within(0, 1));
         let top = random.within(0, 1);
-        for row in plan.maint.iter_mut().chain(&mut plan.running) {
+        for row in cost_rows(&mut plan) {
             row.fill_with(|| random.within(0, top));
         }
         let mut file = AskedFile::new(encode(&plan));
@@ -332,6 +392,7 @@ fn some_asks_on_files_with_many_units_agree() {
     answers.report("files with many units");
     println!("{full} tables were full");
     assert!(answers.got(Status::Plan) > 20 && answers.got(Status::None) > 20 && full > 20);
+    assert!(answers.off().rarest() > 50);
 }
 
 /// 16 units and one permitted start for each, so that there are 16 places, whatever the schedule.
@@ -517,7 +578,7 @@ fn files_cut_short_or_too_long_are_refused() {
 #[test]
 fn files_with_several_words_edited_agree() {
     let mut answers = Answers::default();
-    for seed in 0..4000 {
+    for seed in 0..8000 {
         let mut random = Random::seeded(seed);
         let plan = asked_plan(&mut random, 3, 2);
         let words = edited(&encode(&plan), &plan, &mut random);
@@ -529,6 +590,7 @@ fn files_with_several_words_edited_agree() {
     answers.report("several words of the file edited");
     assert_eq!(answers.refusals(), [1, 2, 3, 4, 6, 7, 10]);
     assert!(answers.got(Status::Plan) > 10 && answers.got(Status::None) > 10);
+    assert!(answers.off().rarest() > 10);
 }
 
 /// Numbers of lent words around those that are just enough, with any content.

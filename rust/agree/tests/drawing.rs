@@ -3,7 +3,7 @@
 
 use agree::{
     all_schedules, cells_of, edited, fitted, proved_judgement, random_plan, random_scheduled,
-    small_plans, smallest, staggered, tiny_plan, Random, Scheduled,
+    small_plans, smallest, staggered, tiny_plan, OffCounts, Random, Scheduled,
 };
 use reference::{
     draw, encode, example_a, example_a_words, judge, word, Judgement, Plan, Refusal, MAINT, OFF, ON,
@@ -195,11 +195,12 @@ fn every_schedule_of_file_a_is_drawn_and_judged() {
 /// Permitted starts meet (2) to (6), so what may be broken is (1), (7) and (8).
 #[test]
 fn every_schedule_of_small_files_is_drawn_and_judged() {
-    let mut broken = [0; 9];
-    for seed in 0..40 {
+    let (mut broken, mut off) = ([0; 9], OffCounts::default());
+    for seed in 0..60 {
         let mut random = Random::seeded(seed);
         let (weeks, units) = [(1, 4), (2, 3), (3, 2), (4, 2)][seed as usize % 4];
         let plan = fitted(tiny_plan(&mut random, weeks, units), &mut random).plan;
+        off.add(&plan);
         for scheduled in all_schedules(&plan) {
             match judged(&scheduled, seed) {
                 Judgement::Sound(_) => broken[0] += 1,
@@ -208,16 +209,20 @@ fn every_schedule_of_small_files_is_drawn_and_judged() {
             }
         }
     }
-    println!("schedules sound and breaking each formula: {broken:?}");
+    println!("schedules sound and breaking each formula: {broken:?}, {off}");
+    assert!(off.rarest() > 3);
     assert!([0, 1, 7, 8].iter().all(|&number| broken[number] > 0));
     assert!([2, 3, 4, 5, 6].iter().all(|&number| broken[number] == 0));
 }
 
 #[test]
 fn schedules_that_meet_every_formula_are_drawn_and_sound() {
+    let mut off = OffCounts::default();
     for seed in 0..200 {
         let scheduled = random_scheduled(&mut Random::seeded(seed), 52, 16);
+        off.add(&scheduled.plan);
         assert!(matches!(judged(&scheduled, seed), Judgement::Sound(_)));
     }
+    assert!(off.rarest() > 20);
     assert_eq!(judged(&staggered(), 0), Judgement::Sound(208_000_000));
 }

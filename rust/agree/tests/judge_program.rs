@@ -1,8 +1,13 @@
 //! The judge program against the reference: the one line that it prints for a file and a grid, for
 //! damaged ones, and for inputs that are cut short or too long.
 
-use agree::{breaches, printed, random_scheduled, smallest, staggered, together, Random};
-use reference::{bytes_of, encode, example_a_words, judge_input, word, Plan, MAINT, OFF, ON};
+use agree::{
+    breaches, off_damages, printed, random_scheduled, small_plans, smallest, staggered, together,
+    OffClass, OffCounts, Random,
+};
+use reference::{
+    bytes_of, encode, example_a, example_a_words, judge_input, word, Plan, MAINT, OFF, ON,
+};
 
 /// The line that the program prints, without its line feed; panics where the reference has another.
 fn agreed(input: &[u8]) -> String {
@@ -50,7 +55,7 @@ fn grids_of_file_a_are_judged() {
 fn the_largest_file_is_judged() {
     let scheduled = staggered();
     let whole = input(&encode(&scheduled.plan), &scheduled.grid());
-    assert_eq!(whole.len(), 4 * 1888 + 832);
+    assert_eq!(whole.len(), 4 * 2720 + 832);
     assert_eq!(agreed(&whole), "sound 208000000");
 }
 
@@ -66,10 +71,41 @@ fn each_formula_broken_alone_is_printed() {
 
 #[test]
 fn random_sound_grids_are_printed_with_their_cost() {
-    for seed in 0..5 {
-        let scheduled = random_scheduled(&mut Random::seeded(seed), 52, 16);
+    let mut off = OffCounts::default();
+    for seed in 0..12 {
+        let mut random = Random::seeded(seed);
+        let mut scheduled = random_scheduled(&mut random, 52, 16);
+        let class = OffClass::ALL[seed as usize % OffClass::ALL.len()];
+        scheduled.plan.off = class.costs(&scheduled.plan.running, &mut random);
+        off.add(&scheduled.plan);
         let line = agreed(&input(&encode(&scheduled.plan), &scheduled.grid()));
         assert!(line.starts_with("sound "), "seed {seed}");
+    }
+    assert!(off.rarest() >= 2);
+}
+
+#[test]
+fn off_cells_are_printed_with_their_cost() {
+    let plan = Plan {
+        off: Some(vec![vec![10, 20], vec![30, 40], vec![50, 60]]),
+        ..example_a()
+    };
+    let judged = |grid: &[u8]| agreed(&input(&encode(&plan), grid));
+    assert_eq!(judged(&CHEAPEST), "sound 79");
+    assert_eq!(judged(&[ON, MAINT, MAINT, ON, ON, ON]), "sound 23");
+}
+
+#[test]
+fn damaged_off_costs_are_refused() {
+    let plans = small_plans();
+    for plan in plans.iter().filter(|plan| plan.off.is_some()) {
+        let damages = off_damages(plan).into_iter();
+        // a word of kind 15 ends the file, and what follows it is the grid
+        let damages = damages.filter(|(words, refusal)| words[refusal.place] >> 28 != 15);
+        for (damaged, refusal) in damages.step_by(5) {
+            let line = agreed(&input(&damaged, &[]));
+            assert_eq!(line, refusal.to_string());
+        }
     }
 }
 

@@ -5,7 +5,7 @@
 use agree::{
     all_grids, breaches, cells_of, edited, edited_grid, fitted, near, random_grid, random_plan,
     random_scheduled, replacements, small_plans, smallest, staggered, tiny_plan, together, Case,
-    Judgements, Random, Scheduled,
+    Judgements, OffClass, Random, Scheduled,
 };
 use reference::{
     broken, cost, encode, example_a, example_a_words, lay_out, read, word, Judgement, Plan,
@@ -104,7 +104,7 @@ fn all_grids_of_tiny_files_agree() {
     let judgements = sweep_grids(90, &sizes);
     assert_eq!(judgements.total(), 90 * (3 + 9 + 9 + 27 + 81 + 729 + 729));
     assert_eq!(judgements.formulas(), [1, 2, 3, 4, 5, 6, 7, 8]);
-    assert!(judgements.sound() > 500);
+    assert!(judgements.sound() > 500 && judgements.off().rarest() > 50);
     judgements.report("all grids of tiny files");
 }
 
@@ -131,16 +131,50 @@ fn schedules_that_meet_every_formula_are_sound_at_their_cost() {
         }
     }
     assert_eq!(judgements.sound(), 2100);
+    assert!(judgements.off().rarest() > 200);
     judgements.report("schedules that meet every formula");
 }
 
-/// Every cell of 52 weeks and 16 units at 250,000 euros.
+/// The same grid with OFF costs of each class: what they add is the sum over its OFF cells.
+#[test]
+fn off_cells_are_charged_what_the_file_says() {
+    let mut judgements = Judgements::default();
+    for seed in 0..300 {
+        let mut random = Random::seeded(seed);
+        let mut scheduled = random_scheduled(&mut random, 8, 6);
+        scheduled.plan.off = None;
+        let grid = scheduled.grid();
+        let before = cost(&scheduled.plan, &grid);
+        for class in OffClass::ALL {
+            let off = class.costs(&scheduled.plan.running, &mut random);
+            let cells = off.iter().flatten().flatten();
+            let charged = cells.zip(&grid).filter(|(_, &state)| state == OFF);
+            let more: u64 = charged.map(|(&cost, _)| u64::from(cost)).sum();
+            let plan = Plan {
+                off,
+                ..scheduled.plan.clone()
+            };
+            let judgement = judgements.agreed(&encode(&plan), &grid, format_args!("seed {seed}"));
+            assert_eq!(judgement, Judgement::Sound(before + more), "seed {seed}");
+        }
+    }
+    assert!(judgements.off().rarest() >= 200);
+    judgements.report("OFF cells");
+}
+
+/// Every cell of 52 weeks and 16 units at 250,000 euros, also where all that are not MAINT are OFF.
 #[test]
 fn the_largest_cost_of_any_grid_is_given() {
     let mut judgements = Judgements::default();
     let scheduled = staggered();
     let words = encode(&scheduled.plan);
     let judgement = judgements.agreed(&words, &scheduled.grid(), format_args!("staggered"));
+    assert_eq!(judgement, Judgement::Sound(208_000_000));
+    let mut idle = scheduled;
+    idle.plan.demand.fill(0);
+    idle.runs.fill(0);
+    let (words, grid) = (encode(&idle.plan), idle.grid());
+    let judgement = judgements.agreed(&words, &grid, format_args!("nobody runs"));
     assert_eq!(judgement, Judgement::Sound(208_000_000));
 }
 
@@ -203,6 +237,7 @@ fn sound_grids_with_a_few_cells_edited_agree() {
     let large = sweep_seeds(500, |random| case(random, 52, 16));
     assert_eq!(small.formulas(), [1, 2, 3, 4, 5, 6, 7, 8]);
     assert!(small.sound() > 500 && large.sound() > 50);
+    assert!(small.off().rarest() > 50 && large.off().rarest() > 5);
     small.report("a few cells edited, small files");
     large.report("a few cells edited, files of any size");
 }

@@ -3,13 +3,13 @@
 //! one line for inputs that are refused.
 
 use agree::{
-    asked_plan, asks_around, edited, largest, leave_no_start, printed, proved_asks, random_plan,
-    random_scheduled, seeds_for, smallest, staggered, telling_asks, Buffers, KnownFile, ListAnswer,
-    Random, MOST,
+    asked_plan, asks_around, edited, largest, leave_no_start, off_damages, printed, proved_asks,
+    random_plan, random_scheduled, seeds_for, small_plans, smallest, telling_asks, Buffers,
+    KnownFile, ListAnswer, OffCounts, Random, MOST,
 };
 use reference::{
-    ask_words, block_len, bytes_of, check_plan_text, encode, example_a_words, plan_input,
-    plan_lines, plan_text, word, words_from, Ask, Plan, Status, Survey,
+    ask_words, block_len, bytes_of, check_plan_text, encode, example_a, example_a_words,
+    plan_input, plan_lines, plan_text, word, words_from, Ask, Plan, Status, Survey,
 };
 use std::collections::BTreeMap;
 use std::fmt::Arguments;
@@ -94,6 +94,35 @@ fn asks_with_tries_for_every_place_are_answered_in_full() {
     assert_eq!(said(&late, "11:268435455 12:1"), "ask 1 none");
 }
 
+/// File A with OFF costs above all running costs, as high as unit 2's, and below all.
+#[test]
+fn off_costs_are_in_the_lines() {
+    let said = |off: u32| {
+        let plan = Plan {
+            off: Some(vec![vec![off; 2]; 3]),
+            ..example_a()
+        };
+        determined(&input(&encode(&plan), "11:100 12:12 11:20 12:1"))
+    };
+    assert_eq!(said(5), "ask 1 plan 23 starts 2 1 run 1 2 3\nask 2 none");
+    assert_eq!(said(4), "ask 1 plan 23 starts 2 1 run 1 2 1\nask 2 none");
+    assert_eq!(said(2), "ask 1 plan 21 starts 2 1 run 1 2 1\nask 2 none");
+}
+
+#[test]
+fn damaged_off_costs_are_refused() {
+    let plans = small_plans();
+    for plan in plans.iter().filter(|plan| plan.off.is_some()) {
+        for (damaged, refusal) in off_damages(plan).into_iter().step_by(5) {
+            // a word of kind 15 ends the file, and what follows it is asks
+            let whole = input(&damaged, "11:100 12:12");
+            let line = determined(&whole);
+            let cut = damaged[refusal.place] >> 28 == 15;
+            assert!(line == refusal.to_string() || cut, "{line}, {refusal}");
+        }
+    }
+}
+
 /// The most asks, and the largest file that the program has words for.
 #[test]
 fn the_most_asks_and_units_are_answered() {
@@ -102,7 +131,6 @@ fn the_most_asks_and_units_are_answered() {
     assert!(lines.ends_with("\nask 32 plan 19 starts 2 1 run 1 2 1"));
     let starts: Vec<u32> = (0..14).map(|unit| 3 * unit + 1).collect();
     let cut = Plan {
-        units: 14,
         capacity: vec![1_000_000; 14],
         demand: vec![13_000_000; 52],
         earliest: starts.clone(),
@@ -110,11 +138,18 @@ fn the_most_asks_and_units_are_answered() {
         duration: vec![3; 14],
         maint: vec![vec![250_000; 14]; 52],
         running: vec![vec![250_000; 14]; 52],
-        pairs: vec![],
-        ..staggered().plan
+        ..smallest(52, 14)
     };
     let line = determined(&input(&encode(&cut), "11:268435455 12:14"));
     assert!(line.starts_with("ask 1 plan 179500000 starts 1 4 7 10"));
+    // the unit that is not needed in weeks 43 to 52 costs as much OFF, and the first 13 run
+    let warm = Plan {
+        off: Some(vec![vec![250_000; 14]; 52]),
+        ..cut
+    };
+    let line = determined(&input(&encode(&warm), "11:268435455 12:14"));
+    assert!(line.starts_with("ask 1 plan 182000000 starts 1 4 7 10"));
+    assert!(line.ends_with(" 8191 8191"));
 }
 
 /// Every budget of file A, alone and before one that is enough; the marks are printed with their 0.
@@ -138,11 +173,14 @@ fn spent_asks_of_file_a_are_printed_with_their_mark() {
 }
 
 #[test]
-fn the_example_season_is_answered_as_shown() {
+fn the_example_seasons_are_answered_as_shown() {
     let folder = Path::new(env!("CARGO_MANIFEST_DIR")).join("../../examples");
-    let bytes = fs::read(folder.join("season.bin")).expect("the example's bytes");
-    let shown = fs::read_to_string(folder.join("season.out")).expect("the example's output");
-    assert_eq!(text(&bytes), shown);
+    for name in ["season", "season-warm"] {
+        let file = folder.join(name);
+        let bytes = fs::read(file.with_extension("bin")).expect("the example's bytes");
+        let shown = fs::read_to_string(file.with_extension("out")).expect("the example's output");
+        assert_eq!(text(&bytes), shown, "{name}");
+    }
 }
 
 /// Without an end word all bytes are the file's; an empty input has none of its words.
@@ -261,10 +299,12 @@ fn files_with_15_or_16_units_are_refused_last() {
 fn random_lists_on_small_files_are_printed() {
     let what = "random lists, printed";
     let (mut counts, mut inputs, mut letters) = (BTreeMap::<Status, usize>::new(), 0, 0);
+    let mut off = OffCounts::default();
     for seed in seeds_for(0.3, 800, what) {
         let mut random = Random::seeded(seed);
         let (units, weeks) = (seed as u32 % 4 + 1, seed as u32 / 4 % 5 + 1);
         let plan = asked_plan(&mut random, weeks, units);
+        off.add(&plan);
         let mut asks = telling_asks(&Survey::new(&plan), &mut random);
         if random.once_in(4) {
             asks.iter_mut().for_each(|ask| ask.budget = MOST);
@@ -280,7 +320,8 @@ fn random_lists_on_small_files_are_printed() {
             .for_each(|status| *counts.entry(status).or_default() += 1);
         inputs += 1;
     }
-    println!("{inputs} inputs, {letters} of them to the letter, {counts:?}");
+    println!("{inputs} inputs, {letters} of them to the letter, {counts:?}, {off}");
+    assert!(off.rarest() > 80, "{off}");
     assert!(inputs >= 800 && letters > 200 && counts.len() == 4);
     assert!(counts.values().all(|&count| count > 50), "{counts:?}");
 }
@@ -289,10 +330,11 @@ fn random_lists_on_small_files_are_printed() {
 /// as many words as the program has.
 #[test]
 fn the_program_prints_what_the_library_answers() {
-    let mut lines = [0; 4];
-    for seed in 0..60 {
+    let (mut lines, mut off) = ([0; 4], OffCounts::default());
+    for seed in 0..100 {
         let mut random = Random::seeded(seed);
         let file = KnownFile::new(&random_scheduled(&mut random, 52, 14));
+        off.add(file.plan());
         let count = random.within(1, 32);
         let asks = asks_around(file.cost(), count, 5000, &mut random);
         let (words, asks) = (encode(file.plan()), ask_words(&asks));
@@ -309,8 +351,8 @@ fn the_program_prints_what_the_library_answers() {
             lines[block[0] as usize - 1] += 1;
         }
     }
-    println!("lines of each status: {lines:?}");
-    assert!(lines.iter().all(|&count| count > 20));
+    println!("lines of each status: {lines:?}, {off}");
+    assert!(lines.iter().all(|&count| count > 20) && off.rarest() > 8);
 }
 
 /// Inputs with words edited in the file, in the asks or in both, or cut short.

@@ -2,8 +2,8 @@
 //! legal, damaged in one word or several, cut short, too long, and random.
 
 use agree::{
-    all_pairs, border_plans, edited, largest, near, random_from, random_plan, recounted,
-    replacements, small_plans, smallest, Counts, Random, Verdict,
+    all_pairs, border_plans, edited, largest, near, off_damages, random_from, random_plan,
+    recounted, replacements, small_plans, smallest, Counts, OffClass, Random, Verdict,
 };
 use reference::{encode, example_a_words, word, Plan, Refusal};
 
@@ -81,7 +81,7 @@ fn files_at_the_borders_of_size_range_window_and_pairs_are_accepted() {
         let verdict = counts.agreed(&encode(plan), format_args!("border plan {case}"));
         assert_eq!(verdict, Ok(()), "border plan {case}");
     }
-    assert_eq!(encode(&largest()).len(), 1888);
+    assert_eq!(encode(&largest()).len(), 2720);
     assert!(counts.accepted() > 100);
     counts.report("borders");
 }
@@ -91,6 +91,7 @@ fn random_legal_files_are_accepted() {
     let small = sweep_seeds(4000, |random| encode(&random_plan(random, 8, 16)));
     let any = sweep_seeds(400, |random| encode(&random_plan(random, 52, 16)));
     assert_eq!((small.accepted(), any.accepted()), (4000, 400));
+    assert!(small.off().rarest() > 500 && any.off().rarest() > 50);
     small.report("random legal, small");
     any.report("random legal, any size");
 }
@@ -120,6 +121,7 @@ fn each_cause_has_its_number_and_place_in_file_a() {
         (23, word(9, 250_001), 2),      // running cost
         (23, word(10, 34), 1),          // a pair where a cost is due
         (24, word(9, 4), 1),            // a cost too many
+        (24, word(0, 250_001), 2),      // OFF cost
         (24, word(10, 33), 4),          // a = b
         (24, word(10, 65), 4),          // a > b
         (24, word(10, 2), 4),           // a = 0
@@ -165,6 +167,72 @@ fn pairs_have_to_be_legal_and_rise() {
         let verdict = counts.agreed(&file, format_args!("pairs {pairs:?}"));
         assert_eq!(verdict, expected);
     }
+}
+
+/// OFF costs after the 24 words of file A before its end word: all six or none.
+#[test]
+fn off_costs_are_all_there_or_none() {
+    let mut counts = Counts::default();
+    let words = &example_a_words()[..24];
+    for count in 0..=8 {
+        for tail in [vec![], vec![word(10, 34)]] {
+            let off = vec![word(0, 250_000); count];
+            let mut file = [words, &off, &tail].concat();
+            let end = file.len();
+            file.push(word(15, end as u32));
+            let expected = match count {
+                0 | 6 => Ok(()),
+                // fewer: at the word after them; more: at the seventh
+                _ => refused(1, 24 + count.min(6)),
+            };
+            let verdict = counts.agreed(&file, format_args!("{count} OFF costs"));
+            assert_eq!(verdict, expected, "{count} OFF costs");
+            // without its end word it ends, there or before
+            let place = if expected.is_ok() {
+                end
+            } else {
+                24 + count.min(6)
+            };
+            let verdict = counts.agreed(&file[..end], format_args!("{count}, cut"));
+            assert_eq!(verdict, refused(1, place), "{count} OFF costs, cut");
+        }
+    }
+    assert_eq!(counts.accepted(), 4);
+}
+
+/// The OFF costs of files of every class damaged in every way, with the refusals that are due.
+#[test]
+fn every_damage_of_off_costs_is_refused() {
+    let mut counts = Counts::default();
+    let mut random = Random::seeded(0);
+    let with_off = |plan: Plan, random: &mut Random| {
+        let classes = OffClass::ALL[1..].iter();
+        let off: Vec<_> = classes
+            .map(|class| class.costs(&plan.running, random))
+            .collect();
+        off.into_iter().map(move |off| Plan {
+            off,
+            ..plan.clone()
+        })
+    };
+    let mut plans = small_plans();
+    plans.extend((0..20).map(|_| random_plan(&mut random, 4, 4)));
+    for plan in plans.into_iter().filter(|plan| plan.weeks < 52) {
+        for plan in with_off(plan, &mut random) {
+            for (damaged, refusal) in off_damages(&plan) {
+                let verdict = counts.agreed(&damaged, format_args!("damaged OFF costs"));
+                assert_eq!(verdict, Err(refusal));
+            }
+        }
+    }
+    let damages = off_damages(&largest());
+    for (damaged, refusal) in damages.into_iter().step_by(101) {
+        let verdict = counts.agreed(&damaged, format_args!("damaged OFF costs, largest"));
+        assert_eq!(verdict, Err(refusal));
+    }
+    counts.report("damaged OFF costs");
+    assert_eq!(counts.numbers(), [1, 2]);
+    assert!(counts.total() > 10_000 && counts.places() > 100);
 }
 
 #[test]
@@ -355,7 +423,7 @@ fn lists_with_the_kinds_of_a_legal_file_agree() {
         words
     });
     assert_eq!(counts.numbers(), [1, 2, 3, 4, 6]);
-    assert!(counts.accepted() > 1000);
+    assert!(counts.accepted() > 1000 && counts.off().rarest() > 100);
     counts.report("kinds of a legal file");
 }
 
@@ -366,6 +434,6 @@ fn legal_files_with_several_words_edited_agree() {
         edited(&encode(&plan), &plan, random)
     });
     assert_eq!(counts.numbers(), [1, 2, 3, 4, 6, 7]);
-    assert!(counts.accepted() > 100);
+    assert!(counts.accepted() > 100 && counts.off().rarest() > 10);
     counts.report("several words edited");
 }

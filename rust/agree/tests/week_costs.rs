@@ -3,7 +3,7 @@
 
 use agree::{
     all_queries, dirty_scratch, edited, largest, proved_run, query, random_queries, small_plans,
-    smallest, tied_plan, Random,
+    smallest, thrifty_units, tied_plan, OffClass, OffCounts, Random,
 };
 use reference::{encode, example_a, example_a_words, week_costs, word, Plan, Refusal};
 use std::fmt::Arguments;
@@ -91,13 +91,72 @@ fn the_costs_of_file_a_are_given() {
     assert_eq!(ffi::NO_RUN, 268_435_456);
 }
 
+/// A week in which unit 3 costs less running than OFF and unit 2 as much, asked twice with one
+/// memory: what units out would cost OFF is not in a cost, whichever query was answered before.
+#[test]
+fn off_is_charged_to_units_that_neither_run_nor_are_out() {
+    let plan = Plan {
+        demand: vec![10],
+        capacity: vec![10, 10, 1],
+        running: vec![vec![5, 6, 2]],
+        off: Some(vec![vec![1, 6, 3]]),
+        ..smallest(1, 3)
+    };
+    let queries: Vec<u32> = (0..8)
+        .chain((0..8).rev())
+        .map(|out| query(1, out))
+        .collect();
+    let once = [9, 8, 7, ffi::NO_RUN, 7, 6, 5, ffi::NO_RUN];
+    let back: Vec<u32> = once.iter().rev().copied().collect();
+    for length in LENGTHS {
+        let (mut scratch, mut costs) = (vec![0; length], [0; 16]);
+        let asked = ffi::week_costs(&encode(&plan), &queries, &mut scratch, &mut costs);
+        assert_eq!(asked, Ok(()));
+        assert_eq!(costs[..8], once, "scratch {length}");
+        assert_eq!(costs[8..], back, "scratch {length}");
+    }
+}
+
+/// Every set out of every week, in files with OFF costs of each class: with one more unit out that
+/// costs less running than OFF, and without.
+#[test]
+fn every_query_of_files_with_off_costs_of_each_class_agrees() {
+    let (mut off, mut cheaper) = (OffCounts::default(), 0);
+    for seed in 0..120 {
+        let mut random = Random::seeded(seed);
+        let (weeks, units) = small_size(seed);
+        let mut plan = tied_plan(&mut random, weeks, units);
+        for class in OffClass::ALL {
+            plan.off = class.costs(&plan.running, &mut random);
+            off.add(&plan);
+            let asked = Asked::in_full(&plan, shuffled(all_queries(&plan), &mut random));
+            let costs = asked.expected.as_ref().expect("the file is accepted");
+            let cost_of = |asked_for: u32| {
+                let mut all = asked.queries.iter().zip(costs);
+                all.find(|(&query, _)| query == asked_for)
+                    .map(|(_, &cost)| cost)
+            };
+            let none_out = cost_of(query(1, 0));
+            cheaper += usize::from(cost_of(query(1, thrifty_units(&plan, 1))) < none_out);
+            for length in [0, 7, 64] {
+                let mut scratch = random.words(length);
+                let origin = format_args!("{class:?}, scratch {length}, seed {seed}");
+                assert_eq!(asked.agreed(&mut scratch, &mut random, origin), Ok(()));
+            }
+        }
+    }
+    println!("{off}; a week was cheaper with its thrifty units out in {cheaper} files");
+    assert!(off.rarest() > 80 && cheaper > 20);
+}
+
 #[test]
 fn no_length_and_no_content_of_scratch_changes_a_cost() {
-    let mut calls = 0;
+    let (mut calls, mut off) = (0, OffCounts::default());
     for seed in 0..300 {
         let mut random = Random::seeded(seed);
         let (weeks, units) = small_size(seed);
         let plan = tied_plan(&mut random, weeks, units);
+        off.add(&plan);
         let queries = random_queries(&plan, 60, &mut random);
         let asked = Asked::new(encode(&plan), queries, 60 + random.place(4));
         for length in LENGTHS {
@@ -110,16 +169,18 @@ fn no_length_and_no_content_of_scratch_changes_a_cost() {
             }
         }
     }
-    println!("any length and content of scratch: {calls} calls of 60 queries");
+    println!("any length and content of scratch: {calls} calls of 60 queries, {off}");
+    assert!(off.rarest() > 30);
 }
 
 #[test]
 fn every_query_of_small_files_agrees_in_any_order() {
-    let mut costs = 0;
+    let (mut costs, mut off) = (0, OffCounts::default());
     for seed in 0..240 {
         let mut random = Random::seeded(seed);
         let (weeks, units) = small_size(seed);
         let plan = tied_plan(&mut random, weeks, units);
+        off.add(&plan);
         let twice = all_queries(&plan).repeat(2);
         let mixed = shuffled(twice.clone(), &mut random);
         for asked in [twice, mixed].map(|queries| Asked::in_full(&plan, queries)) {
@@ -132,7 +193,8 @@ fn every_query_of_small_files_agrees_in_any_order() {
             }
         }
     }
-    println!("every query of small files: {costs} costs");
+    println!("every query of small files: {costs} costs, {off}");
+    assert!(off.rarest() > 20);
 }
 
 /// The scratch that the call on one file left is lent to the call on another with the same queries:
@@ -294,9 +356,13 @@ fn the_dearest_runs_of_any_file_are_given() {
 /// a test of their own against it.
 #[test]
 fn costs_in_files_of_16_units_are_those_of_single_runs() {
-    for seed in 0..20 {
+    let mut off = OffCounts::default();
+    for seed in 0..24 {
         let mut random = Random::seeded(seed);
-        let plan = tied_plan(&mut random, 52, 16);
+        let mut plan = tied_plan(&mut random, 52, 16);
+        let class = OffClass::ALL[seed as usize % OffClass::ALL.len()];
+        plan.off = class.costs(&plan.running, &mut random);
+        off.add(&plan);
         let (words, queries) = (encode(&plan), random_queries(&plan, 1000, &mut random));
         let cost = |&asked: &u32| {
             let answer = proved_run(&words, (asked / 65_536) as usize, asked % 65_536);
@@ -311,4 +377,5 @@ fn costs_in_files_of_16_units_are_those_of_single_runs() {
             assert_eq!(costs, expected, "scratch {length}, seed {seed}");
         }
     }
+    assert!(off.rarest() >= 4);
 }

@@ -3,8 +3,8 @@
 //! units and weeks that the file has not; damaged files.
 
 use agree::{
-    edited, largest, random_plan, replacements, small_plans, smallest, tied_plan, Random,
-    RunAnswer, Runs,
+    edited, largest, random_plan, replacements, small_plans, smallest, thrifty_units, tied_plan,
+    OffClass, Random, RunAnswer, Runs,
 };
 use reference::{encode, example_a, read, word, CheapestRun, Plan, Refusal};
 
@@ -72,8 +72,10 @@ fn every_set_out_of_small_files_agrees() {
         let (units, weeks) = (seed % 8 + 1, seed / 8 % 3 + 1);
         tied_plan(random, weeks as u32, units as u32)
     });
-    assert!(runs.found() > 30_000 && runs.tied() > 10_000 && runs.none() > 30_000);
     runs.report("every set out of small files");
+    assert!(runs.found() > 30_000 && runs.tied() > 10_000 && runs.none() > 30_000);
+    assert!(runs.unneeded() > 5000 && runs.thrifty_out() > 5000);
+    assert!(runs.off().rarest() > 2000);
 }
 
 #[test]
@@ -84,8 +86,74 @@ fn every_set_out_of_files_with_any_figures_agrees() {
         plan.demand.fill_with(|| random.edgy(0, most));
         plan
     });
-    assert!(runs.found() > 10_000 && runs.none() > 10_000);
     runs.report("every set out of files with any figures");
+    assert!(runs.found() > 10_000 && runs.none() > 10_000);
+    assert!(runs.unneeded() > 1000 && runs.off().rarest() > 1000);
+}
+
+/// OFF costs of each class, a euro or so beside the running costs, in files whose demand leaves
+/// something to choose.
+#[test]
+fn every_set_out_of_files_with_off_costs_of_each_class_agrees() {
+    for class in OffClass::ALL {
+        let runs = sweep_seeds(120, |seed, random| {
+            let (units, weeks) = (seed % 6 + 2, seed / 6 % 3 + 1);
+            let mut plan = tied_plan(random, weeks as u32, units as u32);
+            plan.off = class.costs(&plan.running, random);
+            plan
+        });
+        runs.report(&format!("{class:?} OFF costs"));
+        assert!(runs.found() > 2000 && runs.none() > 1000);
+        let above = matches!(class, OffClass::Above | OffClass::Mixed);
+        assert_eq!(runs.unneeded() > 0, above);
+        assert_eq!(runs.thrifty_out() > 0, above);
+        assert!(!above || (runs.unneeded() > 500 && runs.thrifty_out() > 500));
+    }
+}
+
+/// Unit 2 runs though demand does not need it where that is cheaper than OFF, stays OFF where it
+/// costs the same, and is not charged where it is out.
+#[test]
+fn a_unit_that_demand_does_not_need_runs_where_that_is_cheaper() {
+    let mut runs = Runs::default();
+    let mut agreed = |off: u32, out| {
+        let plan = Plan {
+            off: Some(vec![vec![9, off]]),
+            ..one_week(5, &[5, 5], &[4, 6])
+        };
+        runs.agreed(&encode(&plan), 1, out, format_args!("OFF at {off}"))
+    };
+    for off in 0..=6 {
+        assert_eq!(agreed(off, 0b00), found(0b01, 4 + u64::from(off)));
+    }
+    for off in [7, 8, 250_000] {
+        assert_eq!(agreed(off, 0b00), found(0b11, 4 + 6));
+    }
+    for off in [0, 5, 6, 7, 250_000] {
+        assert_eq!(agreed(off, 0b10), found(0b01, 4));
+        assert_eq!(agreed(off, 0b01), found(0b10, 6));
+        assert_eq!(agreed(off, 0b11), Ok(None));
+    }
+}
+
+/// Every unit thrifty, and every set of them out: all others run, whatever is demanded.
+#[test]
+fn all_units_run_that_cost_less_running_than_off() {
+    let mut runs = Runs::default();
+    for units in [1, 2, 7, 16] {
+        let plan = Plan {
+            off: Some(vec![vec![2; units]]),
+            ..one_week(0, &vec![0; units], &vec![1; units])
+        };
+        let (words, all) = (encode(&plan), thrifty_units(&plan, 1));
+        assert_eq!(all, (1 << units) - 1);
+        for out in (0..=all).step_by(1 << (units / 2)) {
+            let answer = runs.agreed(&words, 1, out, format_args!("{units} units"));
+            let run = all & !out;
+            assert_eq!(answer, found(run, u64::from(run.count_ones())));
+        }
+    }
+    assert!(runs.unneeded() > 100 && runs.thrifty_out() > 100);
 }
 
 /// All units alike, so that any of the same number would do and the lowest are to be taken.
@@ -140,9 +208,13 @@ fn figures_at_the_ends_of_their_ranges_agree() {
         fill(&mut plan.capacity, &[0, 1, 999_999, 1_000_000]);
         fill(&mut plan.running[0], &[0, 1, 249_999, 250_000]);
         fill(&mut plan.running[1], &[249_999, 250_000]);
+        let mut off = vec![vec![0; units as usize]; 2];
+        fill(&mut off[0], &[0, 1, 2, 249_999, 250_000]);
+        fill(&mut off[1], &[249_999, 250_000]);
         let most: u32 = plan.capacity.iter().sum();
         let demands = [0, 1, most / 2, most.saturating_sub(1), most, 16_000_000];
         fill(&mut plan.demand, &demands);
+        plan.off = (!random.once_in(3)).then_some(off);
         plan
     };
     let mut runs = sweep_seeds(300, |seed, random| extreme(random, seed as u32 % 8 + 1));
@@ -253,8 +325,9 @@ fn some_sets_out_of_files_of_16_units_agree() {
             let _ = runs.agreed(&words, week, out, format_args!("seed {seed}"));
         }
     }
-    assert!(runs.found() > 30 && runs.none() > 10);
     runs.report("some sets out of files of 16 units");
+    assert!(runs.found() > 30 && runs.none() > 10);
+    assert!(runs.unneeded() > 5 && runs.thrifty_out() > 3);
 }
 
 /// The refusal is the reader's, whatever the week and the set are.
@@ -305,7 +378,7 @@ fn files_with_several_words_edited_agree() {
         let (week, out) = (random.within(0, 4) as usize, few_units(&mut random));
         let _ = runs.agreed(&words, week, out, format_args!("seed {seed}"));
     }
+    runs.report("several words of the file edited");
     assert_eq!(runs.refusals(), [1, 2, 3, 4, 6]);
     assert!(runs.found() > 50 && runs.none() > 50);
-    runs.report("several words of the file edited");
 }

@@ -2,6 +2,7 @@
 //! the plain twin: what an ask takes, then the same as the season gets longer, and as the table of
 //! conflicts does.
 
+use crate::classes::Class;
 use crate::generated::Scheme;
 use crate::plain_ask::{self, Effort};
 use crate::table;
@@ -39,11 +40,11 @@ pub fn run() {
 fn time_instances() {
     println!("open ceiling, {TRIES} tries, table of {LONGEST} words; microseconds an ask");
     table::titles(&["status", "tries", "proved us", "plain us", "proved/plain"]);
-    for (case, scheme) in instances() {
-        let measured = Measured::of(&scheme.plan(), TRIES, LONGEST);
+    for (case, plan) in instances() {
+        let measured = Measured::of(&plan, TRIES, LONGEST);
         let (proved, plain) = measured.microseconds();
         table::figures(
-            case,
+            &case,
             &[
                 (f64::from(measured.status), 0),
                 (f64::from(measured.effort.tries), 0),
@@ -55,8 +56,9 @@ fn time_instances() {
     }
 }
 
-/// Instances named by their units, their weeks and the demand; narrow windows leave five starts.
-fn instances() -> [(&'static str, Scheme); 8] {
+/// Instances named by their units, their weeks and the demand; narrow windows leave five starts, and
+/// warm ones have OFF costs.
+fn instances() -> Vec<(String, Plan)> {
     let mid = |units, weeks, crews, seed| Scheme {
         weeks,
         units,
@@ -64,7 +66,7 @@ fn instances() -> [(&'static str, Scheme); 8] {
         seed,
         ..Scheme::default()
     };
-    [
+    let cold = [
         ("6x8 mid", mid(6, 8, 2, 168)),
         ("8x13 mid", mid(8, 13, 2, 1813)),
         ("10x13 mid", mid(10, 13, 2, 11_013)),
@@ -73,7 +75,11 @@ fn instances() -> [(&'static str, Scheme); 8] {
         ("16x20 mid", mid(16, 20, 3, 11_620)),
         ("16x52 mid", mid(16, 52, 2, 11_652)),
         ("15x13 narrow", narrow(5, 2)),
-    ]
+    ];
+    let cold = cold.map(|(name, scheme)| (name.to_string(), scheme.plan()));
+    let warm = Class::warm().into_iter();
+    let warm = warm.map(|class| (format!("{} warm", class.size()), class.plan(1)));
+    cold.into_iter().chain(warm).collect()
 }
 
 /// 15 units over 13 weeks, with windows that leave so many starts, and so many excluded pairs.
@@ -263,6 +269,7 @@ fn checked(words: &[u32], ceiling: u32, budget: u32, lent: &mut Lent) -> Effort 
 #[cfg(test)]
 mod tests {
     use super::{checked, instances, narrow, plain, proved, Lent, OPEN};
+    use crate::classes::Class;
     use crate::generated::small_plan;
     use reference::encode;
 
@@ -294,9 +301,10 @@ mod tests {
 
     /// Asks about generated files as `check` does it.
     fn sweep_generated(check: impl Fn(&[u32], u32, u32, &mut Lent)) {
-        let noting = [("", narrow(4, 30)), ("", narrow(5, 40))];
-        for (_, scheme) in instances().into_iter().chain(noting) {
-            let plan = scheme.plan();
+        let noting = [narrow(4, 30), narrow(5, 40)];
+        let warm = Class::warm().into_iter().map(|class| class.plan(2));
+        let plans = instances().into_iter().map(|(_, plan)| plan);
+        for plan in plans.chain(noting.map(|scheme| scheme.plan())).chain(warm) {
             for table in [64, 100, 1024, 16_384] {
                 let mut lent = Lent::new(&plan, table);
                 for budget in [1, 20, 1000, 30_000] {

@@ -8,18 +8,18 @@ const PAGE: usize = 4096;
 /// away, a processor may take the one's address for the other's and wait.
 #[repr(C, align(4096))]
 pub struct Buffers {
-    bytes: [u8; 2 * PAGE],
+    bytes: [u8; 3 * PAGE],
     _gap: [u8; PAGE / 2],
-    words: [u32; PAGE / 2],
+    words: [u32; 3 * PAGE / 4],
 }
 
 impl Buffers {
-    /// The buffers with a file's bytes in them; panics where those are more than two pages.
+    /// The buffers with a file's bytes in them; panics where those are more than three pages.
     pub fn with(bytes: &[u8]) -> Self {
         let mut buffers = Buffers {
-            bytes: [0; 2 * PAGE],
+            bytes: [0; 3 * PAGE],
             _gap: [0; PAGE / 2],
-            words: [0; PAGE / 2],
+            words: [0; 3 * PAGE / 4],
         };
         buffers.bytes[..bytes.len()].copy_from_slice(bytes);
         buffers

@@ -1,9 +1,12 @@
 //! Instances after section 4.3 of source document 000: capacities, durations and costs normally
 //! distributed, a demand that peaks in the middle of the season, and maintenance costs that go from
-//! 10,000 euros in the first week to a figure of each unit's own in the last.
+//! 10,000 euros in the first week to a figure of each unit's own in the last. OFF costs, which the
+//! document has not, are drawn last, so that an instance without them is as it was.
 
+#[cfg(test)]
+use agree::OffClass;
 use agree::Random;
-use reference::Plan;
+use reference::{smallest, Plan};
 use std::f64::consts::PI;
 
 /// What an instance is drawn from.
@@ -33,6 +36,8 @@ pub struct Scheme {
     pub running_deviation: f64,
     /// How many pairs are excluded.
     pub pairs: usize,
+    /// The OFF costs; none for files that leave them out.
+    pub off: Option<Normal>,
 }
 
 /// A normal distribution.
@@ -59,6 +64,7 @@ impl Default for Scheme {
             maint_deviation: 1000.0,
             running_deviation: 2000.0,
             pairs: 2,
+            off: None,
         }
     }
 }
@@ -72,17 +78,17 @@ impl Scheme {
         let duration = draws.list(self.units, |draws| draws.value(self.duration, 1.0, half));
         let windows = self.windows(&duration, &mut draws);
         Plan {
-            weeks: self.weeks,
-            units: self.units,
             crews: self.crews,
             demand: self.demand(&capacity),
             earliest: windows.iter().map(|window| window.0).collect(),
             latest: windows.iter().map(|window| window.1).collect(),
             maint: self.maint(&mut draws),
-            running: self.running(&mut draws),
+            running: self.by_cell(Normal::new(5000.0, self.running_deviation), &mut draws),
             pairs: self.pairs(&mut draws),
+            off: self.off.map(|costs| self.by_cell(costs, &mut draws)),
             capacity,
             duration,
+            ..smallest(self.weeks, self.units)
         }
     }
 
@@ -125,9 +131,8 @@ impl Scheme {
             .collect()
     }
 
-    /// Running costs, the same for all units but for chance.
-    fn running(&self, draws: &mut Draws) -> Vec<Vec<u32>> {
-        let costs = Normal::new(5000.0, self.running_deviation);
+    /// Costs that are the same for all units but for chance.
+    fn by_cell(&self, costs: Normal, draws: &mut Draws) -> Vec<Vec<u32>> {
         (0..self.weeks)
             .map(|_| draws.list(self.units, |draws| draws.value(costs, 0.0, 250_000.0)))
             .collect()
@@ -204,8 +209,8 @@ fn on_curve(points: &[(f64, f64)], at: f64) -> f64 {
 }
 
 /// A small plan of its own for each seed, for tests: of every size up to 5 weeks and 4 units, with
-/// costs in whole 4,000 euros, so that many are equal, or all 0, and some with a unit that has no
-/// permitted start.
+/// costs in whole 4,000 euros, so that many are equal, or all 0, OFF costs of each class in turn, and
+/// some with a unit that has no permitted start.
 #[cfg(test)]
 pub fn small_plan(seed: u64) -> Plan {
     let digit = |place: u64, count: u64| (seed / place % count) as u32;
@@ -225,6 +230,8 @@ pub fn small_plan(seed: u64) -> Plan {
     for cost in plan.maint.iter_mut().chain(&mut plan.running).flatten() {
         *cost /= euros;
     }
+    let class = OffClass::ALL[digit(3, 6) as usize];
+    plan.off = class.costs(&plan.running, &mut Random::seeded(seed));
     if digit(1, 13) == 0 {
         plan.duration[0] = plan.weeks.min(2);
         (plan.earliest[0], plan.latest[0]) = (plan.weeks, plan.weeks);
@@ -235,7 +242,7 @@ pub fn small_plan(seed: u64) -> Plan {
 #[cfg(test)]
 mod tests {
     use super::{Normal, Scheme};
-    use reference::{bytes_of, encode, read};
+    use reference::{bytes_of, encode, read, Plan};
 
     /// The FNV-1a sum of a list of bytes.
     fn checksum(bytes: &[u8]) -> u64 {
@@ -279,5 +286,25 @@ mod tests {
             ..Scheme::default()
         };
         check(odd, 229, 0xDA56_41E0_98C9_0350);
+        let warm = Scheme {
+            off: Some(Normal::new(1500.0, 500.0)),
+            ..Scheme::default()
+        };
+        check(warm, 649, 0xDA6D_904A_DF22_7393);
+    }
+
+    /// With OFF costs all else is as without them.
+    #[test]
+    fn off_costs_are_drawn_last() {
+        let cold = Scheme::default().plan();
+        let warm = Scheme {
+            off: Some(Normal::new(1500.0, 500.0)),
+            ..Scheme::default()
+        };
+        let warm = warm.plan();
+        let costs: Vec<u32> = warm.off.iter().flatten().flatten().copied().collect();
+        let mean = costs.iter().sum::<u32>() / costs.len() as u32;
+        assert!((1400..1600).contains(&mean), "{mean}");
+        assert_eq!(Plan { off: None, ..warm }, cold);
     }
 }

@@ -19,14 +19,16 @@ pub fn run() {
     }
 }
 
-/// Files and sound grids, named: units overhauled one at a time, with all pairs excluded and with
-/// none, and two at a time, with all others excluded.
-fn cases() -> [(&'static str, Vec<u32>, Vec<u8>); 3] {
-    let mut free = staggered();
+/// Files and sound grids, named: units overhauled one at a time, with all pairs excluded, with none
+/// and without OFF costs, and two at a time, with all others excluded.
+fn cases() -> [(&'static str, Vec<u32>, Vec<u8>); 4] {
+    let (mut free, mut cold) = (staggered(), staggered());
     free.plan.pairs.clear();
+    cold.plan.off = None;
     [
         case("one out at a time, 120 pairs", staggered()),
         case("one out at a time, no pair", free),
+        case("one out at a time, no OFF costs", cold),
         case("two out at a time, 112 pairs", in_twos()),
     ]
 }

@@ -1,7 +1,7 @@
 //! What each mechanism of an ask buys: the plain twin on the classes of the comparison, as it is set
 //! and with one thing changed at a time.
 
-use crate::classes::{Class, SIZES};
+use crate::classes::Class;
 use crate::plain_ask::tuned_ask;
 use crate::plain_tuning::{Tuning, TUNED};
 use crate::table;
@@ -15,22 +15,30 @@ const TRIES: u32 = 1_000_000;
 /// The instances of a class.
 const SEEDS: u32 = 5;
 
-/// Prints a table for each size: what is changed, how many instances are solved, the tries and the
-/// milliseconds.
+/// Prints a table for each size, those with OFF costs last: what is changed, how many instances are
+/// solved, the tries and the milliseconds.
 pub fn run() {
     table::told("geometric means over all instances, solved or not");
     println!("plain twin, {TRIES} tries at most and as many in probes, {SEEDS} instances a class");
     let chosen: Vec<String> = std::env::args().skip(2).collect();
-    for (units, weeks, _) in SIZES {
-        let size = format!("{units}x{weeks}");
+    for classes in groups() {
+        let size = classes[0].size();
         if chosen.is_empty() || chosen.contains(&size) {
             println!();
             table::titles(&["instances", "solved", "walks", "tries", "ms"]);
             for (name, tuning, words) in variants() {
-                print_variant(&format!("{size} {name}"), &size, &tuning, words);
+                let warm = if classes[0].is_warm() { " warm" } else { "" };
+                print_variant(&format!("{size}{warm} {name}"), &classes, &tuning, words);
             }
         }
     }
+}
+
+/// The classes of each size, those with OFF costs apart.
+fn groups() -> Vec<Vec<Class>> {
+    let all = Class::all();
+    let same = |a: &Class, b: &Class| a.size() == b.size() && a.is_warm() == b.is_warm();
+    all.chunk_by(same).map(<[Class]>::to_vec).collect()
 }
 
 /// The settings as they are and changed: a name, the settings, the words of the table.
@@ -87,14 +95,12 @@ fn variants() -> Vec<(&'static str, Tuning, usize)> {
     variants
 }
 
-/// Solves all instances of a size, and prints what it took.
-fn print_variant(case: &str, size: &str, tuning: &Tuning, words: usize) {
-    let classes = Class::all().into_iter();
-    let classes = classes.filter(|class| class.size() == size);
+/// Solves all instances of some classes, and prints what it took.
+fn print_variant(case: &str, classes: &[Class], tuning: &Tuning, words: usize) {
     let (mut count, mut solved, mut walks, mut tries, mut seconds) = (0.0, 0.0, 0.0, 0.0, 0.0);
     for class in classes {
         for number in 1..=SEEDS {
-            let taken = Taken::of(&class, number, tuning, words);
+            let taken = Taken::of(class, number, tuning, words);
             count += 1.0;
             solved += f64::from(u32::from(taken.solved));
             walks += taken.walks.ln();

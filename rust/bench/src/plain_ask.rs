@@ -182,10 +182,13 @@ fn copy_starts(starts: &[u8], words: &mut [u32]) {
 #[cfg(test)]
 mod tests {
     use super::{ask, tuned_ask};
+    use crate::classes::Class;
     use crate::generated::small_plan;
     use crate::plain_tuning::{Tuning, TUNED};
+    use agree::{asked_plan, telling_ceilings, OffCounts, Random};
     use reference::{accept, block_len, check_run, encode, word, Ask, Lent, Plan, Status, Survey};
     use std::collections::{BTreeMap, BTreeSet};
+    use std::time::Instant;
 
     /// The largest ceiling and the largest budget.
     const MOST: u32 = (1 << 28) - 1;
@@ -265,9 +268,10 @@ mod tests {
     #[test]
     fn answers_on_small_files_are_as_the_reference_says() {
         let mut statuses = BTreeMap::<Status, usize>::new();
-        let tunings = tunings();
+        let (tunings, mut off) = (tunings(), OffCounts::default());
         for seed in 0..1400 {
             let survey = Survey::new(&small_plan(seed));
+            off.add(survey.plan());
             let places = survey.places().len() as u32;
             let tuning = &tunings[seed as usize % tunings.len()];
             for ceiling in ceilings(&survey) {
@@ -279,8 +283,66 @@ mod tests {
                 }
             }
         }
-        println!("{statuses:?}");
+        println!("{statuses:?}, {off}");
         assert!(statuses.len() == 4 && statuses.values().all(|&count| count > 300));
+        assert!(off.rarest() > 80);
+    }
+
+    /// Files with ties, with figures from their whole range, and with OFF costs of each class.
+    #[test]
+    fn answers_on_files_of_all_kinds_are_as_the_reference_says() {
+        let mut statuses = BTreeMap::<Status, usize>::new();
+        let (tunings, mut off) = (tunings(), OffCounts::default());
+        for seed in 0..700 {
+            let mut random = Random::seeded(seed);
+            let (weeks, units) = (seed as u32 % 5 + 1, seed as u32 / 5 % 4 + 1);
+            let survey = Survey::new(&asked_plan(&mut random, weeks, units));
+            off.add(survey.plan());
+            let tuning = &tunings[seed as usize % 3];
+            for ceiling in telling_ceilings(&survey, &mut random) {
+                for budget in [1, 2, random.within(3, 50), MOST] {
+                    let asked = Ask { ceiling, budget };
+                    let status = checked(&survey, asked, 64, tuning, seed);
+                    *statuses.entry(status).or_default() += 1;
+                }
+            }
+        }
+        println!("{statuses:?}, {off}");
+        assert!(statuses.len() == 4 && statuses.values().all(|&count| count > 100));
+        assert!(off.rarest() > 80);
+    }
+
+    /// What was found by an ask on an instance under an open ceiling: the status and the cost.
+    fn solved(plan: &Plan, tries: u32, told: &str) -> (u32, u32) {
+        let Lent {
+            answers, scratch, ..
+        } = enough(plan);
+        let (mut answer, mut table) = (vec![0; answers], vec![0; 16_384]);
+        let (words, start) = ([word(11, MOST), word(12, tries)], Instant::now());
+        let effort = ask(
+            &encode(plan),
+            &words,
+            &mut answer,
+            &mut table,
+            &mut vec![0; scratch],
+        );
+        let (tries, seconds) = (effort.expect("accepted").tries, start.elapsed());
+        println!("{told}: {:?}, {tries} tries, {seconds:?}", &answer[..2]);
+        (answer[0], answer[1])
+    }
+
+    /// A bound that is worse with OFF costs than without would leave most of these spent.
+    #[test]
+    fn instances_with_off_costs_are_solved() {
+        let mut plans = 0;
+        for class in Class::warm() {
+            for number in 1..=3 {
+                let (plan, name) = (class.plan(number), class.name());
+                let (status, _) = solved(&plan, 1_000_000, &format!("{name} {number}"));
+                plans += usize::from(status == 1);
+            }
+        }
+        assert!(plans >= 14, "{plans} of 15");
     }
 
     /// The numbers of words that are just enough for a plan.

@@ -37,6 +37,8 @@ struct File<'a> {
     units: Vec<Unit>,
     maint: &'a [u32],
     running: &'a [u32],
+    /// No word where the file leaves OFF costs out.
+    off: &'a [u32],
     pairs: &'a [u32],
 }
 
@@ -58,17 +60,19 @@ struct Outage {
 impl<'a> File<'a> {
     fn of(words: &'a [u32]) -> Self {
         let (weeks, units) = (value(words[0]) as usize, value(words[1]) as usize);
-        let (demands, rest) = words[3..words.len() - 1].split_at(weeks);
+        let (demands, rest) = words[3..].split_at(weeks);
         let (triples, rest) = rest.split_at(3 * units);
         let (maint, rest) = rest.split_at(weeks * units);
-        let (running, pairs) = rest.split_at(weeks * units);
+        let (running, rest) = rest.split_at(weeks * units);
+        let (off, rest) = plain::split_off(rest, weeks * units);
         File {
             crews: value(words[2]),
             demands,
             units: triples.chunks_exact(3).map(Unit::of).collect(),
             maint,
             running,
-            pairs,
+            off,
+            pairs: &rest[..rest.len() - 1],
         }
     }
 
@@ -162,13 +166,13 @@ impl<'a> File<'a> {
 
     /// Formula (9).
     fn cost(&self, grid: &[u8]) -> u64 {
-        let costs = self.maint.iter().zip(self.running);
-        let cost = |(&state, (&maint, &running)): (&u8, (&u32, &u32))| match state {
-            MAINT => u64::from(value(maint)),
-            ON => u64::from(value(running)),
-            _ => 0,
+        let cost = |(cell, &state): (usize, &u8)| match state {
+            MAINT => value(self.maint[cell]),
+            ON => value(self.running[cell]),
+            _ => self.off.get(cell).map_or(0, |&cost| value(cost)),
         };
-        grid.iter().zip(costs).map(cost).sum()
+        let cells = grid.iter().enumerate();
+        cells.map(|cell| u64::from(cost(cell))).sum()
     }
 }
 

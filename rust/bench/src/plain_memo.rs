@@ -30,8 +30,9 @@ impl<'a> Memo<'a> {
         }
     }
 
-    /// What a week's cheapest run costs with these units out; none where there is no run.
-    pub fn run_cost(&mut self, week: usize, out: Units) -> Option<u64> {
+    /// What a week's cheapest run costs with these units out, with OFF charged to them too, so that
+    /// it is no less with more units out; none where there is no run.
+    pub fn full_cost(&mut self, week: usize, out: Units) -> Option<u64> {
         let key = run_key(week, out);
         let slot = self.slot(key);
         self.lookups += 1;

@@ -9,7 +9,8 @@ pub const UNITS: usize = 16;
 /// How many prices there are: week × 16 + unit.
 pub const PRICES: usize = 52 * UNITS;
 
-/// A choice of units out: what the week's run costs and the prices of the others, together.
+/// A choice of units out: what the week's run costs, with OFF charged to the units out too, and the
+/// prices of the others, together.
 #[derive(Clone, Copy)]
 pub struct Choice {
     /// That sum.
@@ -26,7 +27,7 @@ pub fn least_choice(
     week: usize,
     out: Units,
 ) -> Option<Choice> {
-    let run = memo.run_cost(week, out)?;
+    let run = memo.full_cost(week, out)?;
     let prices = &prices[week * UNITS..][..UNITS];
     let left = prices_below(prices, out);
     let rest = left[file.units.len()];
@@ -80,7 +81,7 @@ struct More {
     count: u32,
     /// Their partners in excluded pairs.
     bar: Units,
-    /// What the run costs.
+    /// What the run costs, with OFF charged to them too.
     run: u64,
     /// The prices of the others.
     rest: u64,
@@ -119,7 +120,7 @@ impl Search<'_, '_, '_> {
             out,
             count: more.count + 1,
             bar: more.bar | self.file.units[unit].partners,
-            run: self.memo.run_cost(self.week, out)?,
+            run: self.memo.full_cost(self.week, out)?,
             rest: more.rest - u64::from(self.prices[unit]),
         })
     }

@@ -3,7 +3,11 @@
 //! code makes. Beside it stands the scan of all runs, which the search is to save.
 //!
 //! A run's score is its cost × 65,536 + its number, so the least score is that of the cheapest run,
-//! among equals of the smallest number. A unit's weight is what it adds to the score.
+//! among equals of the smallest number. The cost is the full one, with OFF charged to the units out
+//! too: by so much it is more for every run.
+//!
+//! Units that cost less running than OFF are in every cheapest run. Of the others those are sought
+//! that cover what is needed yet at least weight, which is what a unit adds to the score.
 
 use crate::plain::{self, VALUE};
 use reference::Refusal;
@@ -12,14 +16,14 @@ use reference::Refusal;
 pub const NO_RUN: u32 = 1 << 28;
 /// The numbers of runs, and so what a euro adds to the score.
 const NUMBERS: u64 = 1 << 16;
-/// The score that stands for no run.
+/// The score that stands for no run, and the weight that stands for no cover.
 const NO_SCORE: u64 = NO_RUN as u64 * NUMBERS;
 
 /// Writes what the cheapest runs cost that the queries ask for, each by a search; the refusal of
 /// the file, or 17.
 #[inline(never)]
 pub fn week_costs(words: &[u32], queries: &[u32], costs: &mut [u32]) -> Result<(), Refusal> {
-    write_costs(words, queries, costs, |week| Search::new(week).least())
+    write_costs(words, queries, costs, Week::search)
 }
 
 /// Writes the same, each by a scan of all runs.
@@ -28,10 +32,10 @@ pub fn scanned_costs(words: &[u32], queries: &[u32], costs: &mut [u32]) -> Resul
     write_costs(words, queries, costs, Week::scan)
 }
 
-/// The cheapest run that a query on an accepted file asks for, by a search: its cost and its
+/// The cheapest run that a query on an accepted file asks for, by a search: its full cost and its
 /// number; none where there is no run, or no such week.
 pub fn cheapest(words: &[u32], query: u32) -> Option<(u32, u32)> {
-    let score = Search::new(&Week::of(words, query)?).least();
+    let score = Week::of(words, query)?.search();
     let run = ((score / NUMBERS) as u32, (score % NUMBERS) as u32);
     (score < NO_SCORE).then_some(run)
 }
@@ -48,7 +52,7 @@ fn write_costs(
     }
     for (cost, &query) in costs.iter_mut().zip(queries) {
         let week = Week::of(words, query);
-        *cost = week.map_or(NO_RUN, |week| (least(&week) / NUMBERS) as u32);
+        *cost = week.map_or(NO_RUN, |week| week.net_cost(least(&week)));
     }
     Ok(())
 }
@@ -59,7 +63,8 @@ struct Week {
     units: usize,
     out: u32,
     capacity: [u64; 16],
-    weight: [u64; 16],
+    running: [u64; 16],
+    off: [u64; 16],
 }
 
 impl Week {
@@ -70,40 +75,85 @@ impl Week {
         if week >= weeks {
             return None;
         }
+        let (cells, first) = (weeks * units, week * units);
         let triples = &words[3 + weeks..];
-        let running = &triples[3 * units + weeks * units + week * units..];
-        let (mut capacity, mut weight) = ([0; 16], [0; 16]);
-        for unit in 0..units {
-            capacity[unit] = value(triples[3 * unit]);
-            weight[unit] = value(running[unit]) * NUMBERS + (1 << unit);
-        }
-        Some(Week {
+        let running = &triples[3 * units + cells..];
+        let (all_off, _) = plain::split_off(&running[cells..], cells);
+        let mut found = Week {
             demand: value(words[3 + week]),
             units,
             out: query & 0xFFFF,
-            capacity,
-            weight,
-        })
+            capacity: [0; 16],
+            running: [0; 16],
+            off: [0; 16],
+        };
+        for unit in 0..units {
+            found.capacity[unit] = value(triples[3 * unit]);
+            found.running[unit] = value(running[first + unit]);
+        }
+        if let Some(off) = all_off.get(first..first + units) {
+            let costs = found.off.iter_mut().zip(off);
+            costs.for_each(|(cost, &word)| *cost = u64::from(word));
+        }
+        Some(found)
     }
 
-    fn is_out(&self, unit: usize) -> bool {
-        self.out >> unit & 1 == 1
+    /// What a score's run costs with nothing charged to the units out.
+    fn net_cost(&self, score: u64) -> u32 {
+        if score == NO_SCORE {
+            return NO_RUN;
+        }
+        let out = (0..self.units).filter(|&unit| has(self.out, unit));
+        let off = out.map(|unit| self.off[unit]).sum::<u64>();
+        (score / NUMBERS - off) as u32
+    }
+
+    /// The score of a run.
+    fn score(&self, run: u32) -> u64 {
+        let cost = |unit| match has(run, unit) {
+            true => self.running[unit],
+            false => self.off[unit],
+        };
+        (0..self.units).map(cost).sum::<u64>() * NUMBERS + u64::from(run)
+    }
+
+    /// The units that are not out and cost less running than OFF.
+    fn thrifty(&self) -> u32 {
+        let is_thrifty =
+            |&unit: &usize| !has(self.out, unit) && self.running[unit] < self.off[unit];
+        (0..self.units)
+            .filter(is_thrifty)
+            .fold(0, |run, unit| run | 1 << unit)
+    }
+
+    /// The least score of a run that meets the demand, by a search for a cover.
+    fn search(&self) -> u64 {
+        let own = self.thrifty();
+        let cover = Cover::new(self, own);
+        match Search::new(&cover).least() {
+            NO_SCORE => NO_SCORE,
+            weight => self.score(own) + weight,
+        }
     }
 
     /// The least score of a run that meets the demand, over all runs: each differs from the one
     /// before in one unit, which is taken in or out.
     fn scan(&self) -> u64 {
-        let (mut run, mut output, mut score) = (0u32, 0, 0);
-        let mut least = if self.demand == 0 { 0 } else { NO_SCORE };
+        let (mut run, mut output, mut score) = (0u32, 0, self.score(0));
+        let mut least = if self.demand == 0 { score } else { NO_SCORE };
         for step in 1u32..1 << self.units {
             let unit = step.trailing_zeros() as usize;
+            let (on, off) = (
+                self.running[unit] * NUMBERS + (1 << unit),
+                self.off[unit] * NUMBERS,
+            );
             run ^= 1 << unit;
-            if run >> unit & 1 == 1 {
+            if has(run, unit) {
                 output += self.capacity[unit];
-                score += self.weight[unit];
+                score = score - off + on;
             } else {
                 output -= self.capacity[unit];
-                score -= self.weight[unit];
+                score = score - on + off;
             }
             if output >= self.demand && run & self.out == 0 && score < least {
                 least = score;
@@ -113,34 +163,66 @@ impl Week {
     }
 }
 
-/// The search for the least score, from the last unit to the first.
+/// What is sought beside the units that are in anyway.
+struct Cover {
+    /// What is needed yet.
+    need: u64,
+    units: usize,
+    /// The units that are no choice: out, or in.
+    settled: u32,
+    capacity: [u64; 16],
+    weight: [u64; 16],
+}
+
+impl Cover {
+    /// The cover that a week wants beside its own units.
+    fn new(week: &Week, own: u32) -> Self {
+        let (mut need, mut weight) = (week.demand, [0; 16]);
+        for (unit, weight) in weight.iter_mut().enumerate().take(week.units) {
+            if has(own, unit) {
+                need = need.saturating_sub(week.capacity[unit]);
+            }
+            let more = week.running[unit].saturating_sub(week.off[unit]);
+            *weight = more * NUMBERS + (1 << unit);
+        }
+        Cover {
+            need,
+            units: week.units,
+            settled: week.out | own,
+            capacity: week.capacity,
+            weight,
+        }
+    }
+}
+
+/// The search for the least weight, from the last unit to the first.
 struct Search<'a> {
-    week: &'a Week,
+    cover: &'a Cover,
     /// What a kilogram is worth; any figure gives a sound bound.
     rate: u64,
-    /// The capacity of the units below each that are not out.
+    /// The capacity of the units below each that are a choice.
     room: [u64; 17],
     /// What those of them are worth more than they weigh, at the rate.
     gain: [u64; 17],
-    /// The least score so far.
+    /// The least weight so far.
     best: u64,
 }
 
 impl<'a> Search<'a> {
-    fn new(week: &'a Week) -> Self {
-        let (best, rate) = greedy(week);
+    fn new(cover: &'a Cover) -> Self {
+        let (best, rate) = greedy(cover);
         let (mut room, mut gain) = ([0; 17], [0; 17]);
-        for unit in 0..week.units {
+        for unit in 0..cover.units {
             let (mut more, mut worth) = (0, 0);
-            if !week.is_out(unit) {
-                more = week.capacity[unit];
-                worth = (rate * more).saturating_sub(week.weight[unit]);
+            if !has(cover.settled, unit) {
+                more = cover.capacity[unit];
+                worth = (rate * more).saturating_sub(cover.weight[unit]);
             }
             room[unit + 1] = room[unit] + more;
             gain[unit + 1] = gain[unit] + worth;
         }
         Search {
-            week,
+            cover,
             rate,
             room,
             gain,
@@ -149,49 +231,53 @@ impl<'a> Search<'a> {
     }
 
     fn least(mut self) -> u64 {
-        self.walk(self.week.units, self.week.demand, 0);
+        self.walk(self.cover.units, self.cover.need, 0);
         self.best
     }
 
     /// Tries the sets of the first `units` units that meet what is needed yet, beside those chosen
-    /// above them at this score.
-    fn walk(&mut self, units: usize, need: u64, score: u64) {
-        let fails = self.best <= score || self.room[units] < need;
-        if fails || self.best + self.gain[units] <= score + self.rate * need {
+    /// above them at this weight.
+    fn walk(&mut self, units: usize, need: u64, weight: u64) {
+        let fails = self.best <= weight || self.room[units] < need;
+        if fails || self.best + self.gain[units] <= weight + self.rate * need {
             return;
         }
         if units == 0 {
-            self.best = score;
+            self.best = weight;
             return;
         }
         let last = units - 1;
-        self.walk(last, need, score);
-        if !self.week.is_out(last) {
-            let rest = need.saturating_sub(self.week.capacity[last]);
-            self.walk(last, rest, score + self.week.weight[last]);
+        self.walk(last, need, weight);
+        if !has(self.cover.settled, last) {
+            let rest = need.saturating_sub(self.cover.capacity[last]);
+            self.walk(last, rest, weight + self.cover.weight[last]);
         }
     }
 }
 
-/// A first run: the units that weigh least for a kilogram, until they meet the demand. Its score,
-/// or that of no run where all fall short; and what a kilogram of the last one weighs.
-fn greedy(week: &Week) -> (u64, u64) {
-    let (mut taken, mut output, mut score, mut rate) = (0u32, 0, 0, 0);
-    while output < week.demand {
-        let left =
-            |&unit: &usize| week.capacity[unit] > 0 && !week.is_out(unit) && taken >> unit & 1 == 0;
+/// A first cover: the units that weigh least for a kilogram, until they meet what is needed. Its
+/// weight, or that of none where all fall short; and what a kilogram of the last one weighs.
+fn greedy(cover: &Cover) -> (u64, u64) {
+    let (mut taken, mut output, mut weight, mut rate) = (cover.settled, 0, 0, 0);
+    while output < cover.need {
+        let left = |&unit: &usize| cover.capacity[unit] > 0 && !has(taken, unit);
         let lighter = |&a: &usize, &b: &usize| {
-            (week.weight[a] * week.capacity[b]).cmp(&(week.weight[b] * week.capacity[a]))
+            (cover.weight[a] * cover.capacity[b]).cmp(&(cover.weight[b] * cover.capacity[a]))
         };
-        let Some(unit) = (0..week.units).filter(left).min_by(lighter) else {
+        let Some(unit) = (0..cover.units).filter(left).min_by(lighter) else {
             return (NO_SCORE, rate);
         };
         taken |= 1 << unit;
-        output += week.capacity[unit];
-        score += week.weight[unit];
-        rate = week.weight[unit] / week.capacity[unit];
+        output += cover.capacity[unit];
+        weight += cover.weight[unit];
+        rate = cover.weight[unit] / cover.capacity[unit];
     }
-    (score, rate)
+    (weight, rate)
+}
+
+/// Whether a set has a unit.
+fn has(set: u32, unit: usize) -> bool {
+    set >> unit & 1 == 1
 }
 
 fn value(word: u32) -> u64 {

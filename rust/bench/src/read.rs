@@ -4,7 +4,7 @@ use crate::buffers::Buffers;
 use crate::timing::Times;
 use crate::{plain, table};
 use agree::{largest, proved_verdict, replacements, small_plans};
-use reference::{bytes_of, encode, word};
+use reference::{bytes_of, encode, word, Plan};
 use std::cell::RefCell;
 use std::hint::black_box;
 
@@ -42,7 +42,8 @@ fn time_load(bytes: &[u8]) -> Times {
     )
 }
 
-/// The longest legal file and five damaged versions, named; the legal one first.
+/// The longest legal file, the same without OFF costs, and five damaged versions, named; the longest
+/// first.
 fn cases() -> Vec<(&'static str, Vec<u32>)> {
     let whole = encode(&largest());
     let end = whole.len() - 1;
@@ -52,12 +53,17 @@ fn cases() -> Vec<(&'static str, Vec<u32>)> {
         words
     };
     let longer = [&whole[..], &[whole[end]]].concat();
+    let cold = Plan {
+        off: None,
+        ..largest()
+    };
     vec![
         ("accepted", whole.clone()),
+        ("accepted, no OFF costs", encode(&cold)),
         ("1: end word missing", whole[..end].to_vec()),
         (
-            "2: last running cost too high",
-            with(end - 121, word(9, 250_001)),
+            "2: last OFF cost too high",
+            with(end - 121, word(0, 250_001)),
         ),
         (
             "4: last pair not above the last",
@@ -100,7 +106,7 @@ fn check_read(words: &[u32]) {
 }
 
 fn check_load(bytes: &[u8]) {
-    for (count, lent) in [(bytes.len(), 2000), (bytes.len(), 9), (7, 1), (0, 0)] {
+    for (count, lent) in [(bytes.len(), 3000), (bytes.len(), 9), (7, 1), (0, 0)] {
         let mut words = vec![7; lent];
         let expected = reference::load(&bytes[..count], lent);
         let loaded = plain::load(&bytes[..count], &mut words);

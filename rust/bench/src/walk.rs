@@ -102,7 +102,8 @@ impl<'a> Walk<'a> {
             let Some(cost) = self.ask(week, row.out[week]) else {
                 return;
             };
-            bound += cost - row.costs[week];
+            // with OFF costs a week may be cheaper with one more unit out
+            bound = bound + cost - row.costs[week];
             row.costs[week] = cost;
         }
         if bound <= self.ceiling {

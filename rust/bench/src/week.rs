@@ -57,8 +57,9 @@ pub fn run() {
 }
 
 /// Instances of 16 units, named by their weeks and by how much of the capacity is demanded or what
-/// else is particular to them.
-fn cases() -> [(&'static str, Scheme); 9] {
+/// else is particular to them; warm ones have OFF costs, at a mean of 5,000 euros often above the
+/// running costs.
+fn cases() -> [(&'static str, Scheme); 11] {
     let of_16 = |weeks, crews, seed, (low, high)| Scheme {
         weeks,
         units: 16,
@@ -86,6 +87,10 @@ fn cases() -> [(&'static str, Scheme); 9] {
         capacity: Normal::new(60_000.0, 20_000.0),
         ..of_16(26, 3, 14, (600.0, 720.0))
     };
+    let warm = |mean| Scheme {
+        off: Some(Normal::new(mean, mean / 3.0)),
+        ..of_16(20, 3, 11_620, (600.0, 720.0))
+    };
     [
         ("16x20 mid", of_16(20, 3, 11_620, (600.0, 720.0))),
         ("16x52 easy", of_16(52, 2, 11_652, (500.0, 620.0))),
@@ -96,6 +101,8 @@ fn cases() -> [(&'static str, Scheme); 9] {
         ("16x52 six crews", crews),
         ("16x26 wide capacities", wide),
         ("16x26 equal costs", equal),
+        ("16x20 warm", warm(1500.0)),
+        ("16x20 warm, many thrifty", warm(5000.0)),
     ]
 }
 

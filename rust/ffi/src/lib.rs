@@ -124,7 +124,7 @@ pub enum Judgement {
 pub struct CheapestRun {
     /// The run as a bit mask: bit i-1 for unit i.
     pub run: u32,
-    /// Its running cost, in euros.
+    /// Its cost, in euros: that of its units running, and of those OFF that neither run nor are out.
     pub cost: u64,
 }
 

@@ -3,8 +3,8 @@
 use crate::plan::counted;
 use crate::{read, Plan, Refusal};
 
-/// What stands for a cost where there is no run. No run costs so much: 16 units run for at most
-/// 4,000,000 euros.
+/// What stands for a cost where there is no run. No run costs so much: 16 units, running or OFF,
+/// cost at most 4,000,000 euros.
 const NO_RUN: u32 = 268_435_456;
 
 /// The cheapest run of a week.
@@ -12,16 +12,16 @@ const NO_RUN: u32 = 268_435_456;
 pub struct CheapestRun {
     /// The run as a bit mask: bit i-1 for unit i.
     pub run: u32,
-    /// Its running cost, in euros.
+    /// Its cost, in euros, that of the units OFF included.
     pub cost: u64,
 }
 
-/// Of the runs that reach a week's demand with the units of `out` out, one of lowest running cost;
-/// ties go to the lowest number. There may be none, and a week that the plan has not has none.
+/// Of the runs that reach a week's demand with the units of `out` out, one of lowest cost; ties go
+/// to the lowest number. There may be none, and a week that the plan has not has none.
 pub fn cheapest_run(plan: &Plan, week: usize, out: u32) -> Option<CheapestRun> {
     let priced = |run| CheapestRun {
         run,
-        cost: run_cost(plan, week, run),
+        cost: run_cost(plan, week, out, run),
     };
     // the first of equals, and the numbers rise
     runs(plan, week, out)
@@ -44,9 +44,22 @@ pub fn runs(plan: &Plan, week: usize, out: u32) -> Vec<u32> {
         .collect()
 }
 
-/// The running cost of a run in a week of the plan.
-pub fn run_cost(plan: &Plan, week: usize, run: u32) -> u64 {
-    total(&plan.running[week - 1], run)
+/// What a run costs in a week of the plan with the units of `out` out: the running costs of its
+/// units, and the OFF costs of those that neither run nor are out.
+pub fn run_cost(plan: &Plan, week: usize, out: u32, run: u32) -> u64 {
+    let cost = |unit: usize| match (is_in(run, unit), is_in(out, unit)) {
+        (true, _) => plan.running[week - 1][unit - 1],
+        (false, true) => 0,
+        (false, false) => plan.off_cost(week, unit),
+    };
+    (1..=plan.units as usize)
+        .map(|unit| u64::from(cost(unit)))
+        .sum()
+}
+
+/// Whether a set of units, as a run's number, has a unit, which counts from 1.
+fn is_in(set: u32, unit: usize) -> bool {
+    set >> (unit - 1) & 1 == 1
 }
 
 /// The costs of the cheapest runs that a list of queries asks for, where `lent` is the number of
@@ -70,8 +83,9 @@ pub fn week_costs(words: &[u32], queries: &[u32], lent: usize) -> Result<Vec<u32
 
 /// The sum of the values of a run's units.
 fn total(values: &[u32], run: u32) -> u64 {
-    (0..values.len())
-        .filter(|unit| run >> unit & 1 == 1)
-        .map(|unit| u64::from(values[unit]))
+    (1..)
+        .zip(values)
+        .filter(|&(unit, _)| is_in(run, unit))
+        .map(|(_, &value)| u64::from(value))
         .sum()
 }

@@ -32,7 +32,7 @@ pub fn broken(plan: &Plan, grid: &[u8]) -> Vec<u32> {
 }
 
 /// (9) The sum of w over all i and t: a unit's maintenance cost in a week where it is MAINT, its
-/// running cost where it is ON, and 0 where it is OFF.
+/// running cost where it is ON, and its OFF cost where it is OFF.
 pub fn cost(plan: &Plan, grid: &[u8]) -> u64 {
     let states = States { plan, grid };
     states.cells().map(|(i, t)| states.w(i, t)).sum()
@@ -114,12 +114,12 @@ impl States<'_> {
 
     /// The cost w of unit i in week t.
     fn w(&self, i: u32, t: u32) -> u64 {
-        let table = match self.x(i, t) {
-            ON => &self.plan.running,
-            MAINT => &self.plan.maint,
-            _ => return 0,
-        };
-        u64::from(at(&table[t as usize - 1], i))
+        let (week, unit) = (t as usize, i as usize);
+        u64::from(match self.x(i, t) {
+            ON => at(&self.plan.running[week - 1], i),
+            MAINT => at(&self.plan.maint[week - 1], i),
+            _ => self.plan.off_cost(week, unit),
+        })
     }
 
     /// The state x of unit i in week t: bytes go week by week, unit by unit within a week.

@@ -1,6 +1,7 @@
-//! Document 01, and the formulas of source document 000 that it names, in plain Rust: slow, short,
-//! and written from their text. Where a sentence can be read in two ways, or the text is silent, it
-//! takes the project's reading, so agreement says nothing about that choice.
+//! Document 01, the formulas of source document 000 that it names, and of the later requests of
+//! document 02 that on OFF costs, in plain Rust: slow, short, and written from their text. Where a
+//! sentence can be read in two ways, or the text is silent, it takes the project's reading, so
+//! agreement says nothing about that choice.
 //!
 //! Nothing here is taken from the proved code or links it, so that a mistake in one is not
 //! repeated in the other. Start at [`read`], then [`judge`], then [`cheapest_run`], then

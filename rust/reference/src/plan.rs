@@ -25,8 +25,20 @@ pub struct Plan {
     pub maint: Vec<Vec<u32>>,
     /// Running costs in euros, by week, then unit.
     pub running: Vec<Vec<u32>>,
+    /// OFF costs in euros, by week, then unit; none where the file leaves them out, which are other
+    /// words than costs of 0.
+    pub off: Option<Vec<Vec<u32>>>,
     /// The excluded pairs of units, counted from 1.
     pub pairs: Vec<(u32, u32)>,
+}
+
+impl Plan {
+    /// What a unit costs in a week in which it is OFF, 0 where the file leaves these costs out. Weeks
+    /// and units count from 1.
+    pub fn off_cost(&self, week: usize, unit: usize) -> u32 {
+        let costs = self.off.as_ref();
+        costs.map_or(0, |costs| costs[week - 1][unit - 1])
+    }
 }
 
 /// The words of a plan, in the order of the file table. It tests no range, so that tests can also
@@ -45,6 +57,8 @@ pub fn encode(plan: &Plan) -> Vec<u32> {
     }
     words.extend(plan.maint.iter().flatten().map(|&cost| word(8, cost)));
     words.extend(plan.running.iter().flatten().map(|&cost| word(9, cost)));
+    let off = plan.off.iter().flatten().flatten();
+    words.extend(off.map(|&cost| word(0, cost)));
     words.extend(plan.pairs.iter().map(|&(a, b)| word(10, a * 32 + b)));
     words.push(word(15, words.len() as u32));
     words
@@ -53,21 +67,16 @@ pub fn encode(plan: &Plan) -> Vec<u32> {
 /// File A of the worked figures, as a plan.
 pub fn example_a() -> Plan {
     Plan {
-        weeks: 3,
-        units: 2,
-        crews: 1,
         demand: vec![10, 10, 10],
         capacity: vec![10, 15],
-        earliest: vec![1, 1],
         latest: vec![3, 3],
-        duration: vec![1, 1],
         maint: vec![vec![5, 5], vec![4, 7], vec![6, 6]],
         running: vec![vec![3, 4], vec![3, 4], vec![3, 4]],
-        pairs: vec![],
+        ..smallest(3, 2)
     }
 }
 
-/// A plan of the given size with the smallest legal values.
+/// A plan of the given size with the smallest legal values, and without what a file may leave out.
 pub fn smallest(weeks: u32, units: u32) -> Plan {
     let (by_week, by_unit) = (weeks as usize, units as usize);
     Plan {
@@ -81,6 +90,7 @@ pub fn smallest(weeks: u32, units: u32) -> Plan {
         duration: vec![1; by_unit],
         maint: vec![vec![0; by_unit]; by_week],
         running: vec![vec![0; by_unit]; by_week],
+        off: None,
         pairs: vec![],
     }
 }

@@ -21,6 +21,7 @@ pub fn read(words: &[u32]) -> Result<Plan, Refusal> {
     }
     let maint = walk.costs(8, weeks, units)?;
     let running = walk.costs(9, weeks, units)?;
+    let off = walk.off_costs(weeks, units)?;
     let pairs = walk.pairs(units)?;
     walk.end()?;
     Ok(Plan {
@@ -34,6 +35,7 @@ pub fn read(words: &[u32]) -> Result<Plan, Refusal> {
         duration,
         maint,
         running,
+        off,
         pairs,
     })
 }
@@ -79,6 +81,14 @@ impl Walk<'_> {
         (0..weeks)
             .map(|_| self.numbers(kind, 250_000, units))
             .collect()
+    }
+
+    /// The OFF costs, of kind 0: all of them where the next word is of that kind, else none.
+    fn off_costs(&mut self, weeks: u32, units: u32) -> Result<Option<Vec<Vec<u32>>>, Refusal> {
+        match self.due(0) {
+            Ok(_) => self.costs(0, weeks, units).map(Some),
+            Err(_) => Ok(None),
+        }
     }
 
     /// A window's earliest and latest week: each in range, then the latest not before the earliest.

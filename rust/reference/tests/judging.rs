@@ -2,17 +2,14 @@
 //! layout of schedules, and the program's input.
 
 use reference::{
-    broken, bytes_of, cost, draw, encode, example_a_words, judge, judge_input, lay_out, word,
-    Judgement, Plan, Refusal, MAINT, OFF, ON,
+    broken, bytes_of, cost, draw, encode, example_a_words, judge, judge_input, lay_out, smallest,
+    word, Judgement, Plan, Refusal, MAINT, OFF, ON,
 };
 
 /// Unit 1 goes out for weeks 2 to 4 and unit 2 for week 1. Nothing is to spare: no demand could be
 /// higher, no window narrower, no crew fewer.
 fn plan() -> Plan {
     Plan {
-        weeks: 5,
-        units: 2,
-        crews: 1,
         demand: vec![3, 4, 4, 4, 3],
         capacity: vec![3, 4],
         earliest: vec![2, 1],
@@ -21,6 +18,7 @@ fn plan() -> Plan {
         maint: (1..=5).map(|t| vec![200 * t - 100, 200 * t]).collect(),
         running: (1..=5).map(|t| vec![2 * t - 1, 2 * t]).collect(),
         pairs: vec![(1, 2)],
+        ..smallest(5, 2)
     }
 }
 

@@ -2,16 +2,13 @@
 //! 01 that concern them, ties, demands at their borders, and costs by hand.
 
 use reference::{
-    cheapest_run, encode, example_a, example_a_words, permitted_starts, run_cost, runs, upkeep,
-    week_costs, CheapestRun, Plan, Refusal,
+    cheapest_run, encode, example_a, example_a_words, permitted_starts, run_cost, runs, smallest,
+    upkeep, week_costs, CheapestRun, Plan, Refusal,
 };
 
 /// Five weeks and four units with the capacities of figure P4. Every week demands 800.
 fn plan() -> Plan {
     Plan {
-        weeks: 5,
-        units: 4,
-        crews: 1,
         demand: vec![800; 5],
         capacity: vec![100, 200, 300, 400],
         earliest: vec![1, 2, 4, 5],
@@ -19,7 +16,7 @@ fn plan() -> Plan {
         duration: vec![3, 1, 2, 2],
         maint: (1..=5).map(|t| vec![t, 10 * t, 100 * t, 7]).collect(),
         running: vec![vec![1, 2, 3, 4]; 5],
-        pairs: vec![],
+        ..smallest(5, 4)
     }
 }
 
@@ -99,9 +96,9 @@ fn bits_beyond_the_units_do_not_count_and_other_weeks_have_no_run() {
 #[test]
 fn a_run_costs_what_its_units_cost_in_its_week() {
     let plan = with(0, [10, 200, 3000, 40_000]);
-    assert_eq!(run_cost(&plan, 1, 0b1010), 40_200);
-    assert_eq!(run_cost(&plan, 2, 0b1010), 6);
-    assert_eq!(run_cost(&plan, 2, 0), 0);
+    assert_eq!(run_cost(&plan, 1, 0, 0b1010), 40_200);
+    assert_eq!(run_cost(&plan, 2, 0b0101, 0b1010), 6);
+    assert_eq!(run_cost(&plan, 2, 0, 0), 0);
 }
 
 #[test]

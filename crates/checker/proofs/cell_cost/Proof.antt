@@ -1,4 +1,4 @@
--- `checker::cell_cost` meets its contract: the row of the cell's state has its cost.
+-- `checker::cell_cost` meets its contract: an OFF cell has its own figure, the row of another state the cell's cost.
 -- Assumes nothing.
 use Rattle.checker.proofs.CostLaws.{off-costs, row-reaches, state-costs}
 use borrow.Author.Needs.{needs}
@@ -7,6 +7,9 @@ use Rattle.checker.proofs.cell_cost.Tie as tie
 
 state-requires : tie.Need-state-requires
 state-requires c κs = search needs
+
+off-cost-requires : tie.Need-off-cost-requires
+off-cost-requires c κs = search needs
 
 returns : tie.Need-returns
 returns c = (search off-costs, search needs)
@@ -31,6 +34,7 @@ cell-cost-spec =
     tie.close
     (tie.spec
     state-requires
+    off-cost-requires
     returns
     row-for-requires
     mul-value-of

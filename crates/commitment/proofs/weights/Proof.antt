@@ -26,6 +26,9 @@ loop-holds c = (search needs, (refl, (search number-start, (search column-start,
 running-cost-requires : tie.Need-running-cost-requires Inv-loop μ-loop
 running-cost-requires c κs = search needs
 
+off-cost-requires : tie.Need-off-cost-requires Inv-loop μ-loop
+off-cost-requires c κs = search needs
+
 weight-requires : tie.Need-weight-requires Inv-loop μ-loop
 weight-requires c κs = (search needs, search number-most)
 
@@ -58,6 +61,7 @@ weights-spec =
     μ-loop
     loop-holds
     running-cost-requires
+    off-cost-requires
     weight-requires
     mul-table
     array-write-table

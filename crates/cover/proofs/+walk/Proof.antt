@@ -10,7 +10,7 @@ use Rattle.cover.proofs.walk.Reads as walk
 use Rattle.cover.proofs.walk.Kinds as walk-kinds
 use Rattle.cover.proofs.+walk.Lts-walk as walk-lts
 use Rattle.cover.proofs.hopeless.Reads as hopeless-reads
-use Rattle.cover.proofs.less.Reads as less-reads
+use Rattle.instance.proofs.Kilo.less.Reads as less-reads
 use Rattle.sets.proofs.has.Reads as has-reads
 use Rattle.cover.proofs.+walk.{statement}
 use Rattle.cover.proofs.+walk.Tie.{close}

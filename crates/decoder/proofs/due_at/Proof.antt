@@ -36,7 +36,11 @@ returns-6 : tie.Need-returns-6
 unfolding dueAt
 returns-6 c = search tests
 
+returns-7 : tie.Need-returns-7
+unfolding dueAt
+returns-7 c = search tests
+
 pub due-at-spec : {M : Type 1} → statement M
 due-at-spec =
     tie.close
-    (tie.spec add-result returns returns-2 add-result-2 returns-3 returns-4 returns-5 returns-6)
+    (tie.spec add-result returns returns-2 add-result-2 returns-3 returns-4 returns-5 returns-6 returns-7)

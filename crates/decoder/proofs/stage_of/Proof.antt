@@ -2,10 +2,12 @@
 -- Assumes nothing.
 use Rattle.decoder.proofs.StageLaws.{onwards}
 use Rattle.decoder.proofs.ArmLaws.{arms}
-use mathlib.Core.Logic.{⊎-elim}
 use borrow.Author.Needs.{needs}
 use Rattle.decoder.proofs.stage_of.Statement.{statement}
 use Rattle.decoder.proofs.stage_of.Tie as tie
+
+section-requires : tie.Need-section-requires
+section-requires c κs = search needs
 
 range-requires : tie.Need-range-requires
 range-requires c κs = search needs
@@ -13,8 +15,8 @@ range-requires c κs = search needs
 alone-requires : tie.Need-alone-requires
 alone-requires c κs = search needs
 
-section-requires : tie.Need-section-requires
-section-requires c κs = search needs
+section-requires-2 : tie.Need-section-requires-2
+section-requires-2 c κs = search needs
 
 range-requires-2 : tie.Need-range-requires-2
 range-requires-2 c κs = search needs
@@ -34,11 +36,11 @@ range-requires-3 c κs = search needs
 alone-requires-4 : tie.Need-alone-requires-4
 alone-requires-4 c κs = search needs
 
-section-requires-2 : tie.Need-section-requires-2
-section-requires-2 c κs = search needs
-
 section-requires-3 : tie.Need-section-requires-3
 section-requires-3 c κs = search needs
+
+section-requires-4 : tie.Need-section-requires-4
+section-requires-4 c κs = search needs
 
 pair-fault-requires : tie.Need-pair-fault-requires
 pair-fault-requires c κs = search needs
@@ -92,23 +94,27 @@ returns-10 : tie.Need-returns-10
 returns-10 c = (search arms, search onwards)
 
 returns-11 : tie.Need-returns-11
-returns-11 c = ⊎-elim (λ (a : _). (search arms, search onwards)) (λ (a : _). (search arms, search onwards)) (c .before .if1 .came)
+returns-11 c = (search arms, search onwards)
+
+returns-12 : tie.Need-returns-12
+returns-12 c = (search arms, search onwards)
 
 pub stage-of-spec : {M : Type 1} → statement M
 stage-of-spec =
     tie.close
     (tie.spec
+    section-requires
     range-requires
     alone-requires
-    section-requires
+    section-requires-2
     range-requires-2
     alone-requires-2
     window-fault-requires
     alone-requires-3
     range-requires-3
     alone-requires-4
-    section-requires-2
     section-requires-3
+    section-requires-4
     pair-fault-requires
     alone-requires-5
     end-fault-requires
@@ -126,4 +132,5 @@ stage-of-spec =
     returns-8
     returns-9
     returns-10
-    returns-11)
+    returns-11
+    returns-12)

@@ -9,10 +9,10 @@ use Rattle.dual.proofs.least_priced.Statement.{statement}
 use Rattle.dual.proofs.least_priced.Tie as tie
 
 abbrev Inv-loop : tie.InvT-loop
-Inv-loop words l prices i least₀ s₀ s-end least s = LeastTo (problemOf words) (priceIn prices) i s₀ s-end s (least .0)
+Inv-loop words l prices i off least₀ s₀ s-end least s = LeastTo (problemOf words) (priceIn prices) i s₀ s-end s (least .0)
 
 abbrev μ-loop : tie.MeasureT-loop
-μ-loop words l prices i least₀ s₀ s-end least s = s-end - s
+μ-loop words l prices i off least₀ s₀ s-end least s = s-end - s
 
 starts-of-requires : tie.Need-starts-of-requires Inv-loop μ-loop
 starts-of-requires c κs = search needs
@@ -24,7 +24,7 @@ loop-holds : tie.Need-loop-holds Inv-loop μ-loop
 loop-holds c = search least-start
 
 priced-cost-requires : tie.Need-priced-cost-requires Inv-loop μ-loop
-priced-cost-requires c κs = search (needs, start-permitted)
+priced-cost-requires c κs = (search needs, (search needs, (search needs, (search start-permitted, search needs))))
 
 smaller-requires : tie.Need-smaller-requires Inv-loop μ-loop
 smaller-requires c κs = search needs

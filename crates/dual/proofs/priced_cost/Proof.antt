@@ -1,77 +1,24 @@
--- `dual::priced_cost` meets its contract: the sum so far is that of the overhaul's first weeks.
+-- `dual::priced_cost` meets its contract: OFF in all weeks is taken off again in those of the overhaul.
 -- Assumes nothing.
-use Prim.Native.Nat.{_+_, _-_, _*_, _≤_}
-use mathlib.Core.Path.{_≡_}
-use Rattle.sums.specs.Sum.{sumTo, shifted}
-use Rattle.sums.proofs.LoopLaws.{sum-start}
-use Rattle.overhaul.proofs.UpkeepLaws.{start-some, ends-within}
-use Rattle.dual.proofs.CostLaws.{pricedWeek, priced-next, priced-ended}
+use Rattle.dual.proofs.CostLaws.{priced-is}
 use borrow.Author.Needs.{needs}
 use Rattle.dual.proofs.priced_cost.Statement.{statement}
 use Rattle.dual.proofs.priced_cost.Tie as tie
 
-abbrev Inv-loop : tie.InvT-loop
-Inv-loop words l prices i start duration first sum₀ k₀ sum k = (k ≤ duration) × (first + duration ≤ l .weeks) × (sum .0 ≤ 4444304 * k) ×
-    (sum .0 ≡ sumTo k (shifted first (pricedWeek words prices i)))
+span-cost-requires : tie.Need-span-cost-requires
+span-cost-requires c κs = search needs
 
-abbrev μ-loop : tie.MeasureT-loop
-μ-loop words l prices i start duration first sum₀ k₀ sum k = duration - k
-
-duration-requires : tie.Need-duration-requires Inv-loop μ-loop
-duration-requires c κs = search needs
-
-sub-first : tie.Need-sub-first Inv-loop μ-loop
-sub-first c = search (needs, start-some)
-
-loop-holds : tie.Need-loop-holds Inv-loop μ-loop
-loop-holds c = (search needs, search ends-within, search needs, search sum-start)
-
-add-maint-cost : tie.Need-add-maint-cost Inv-loop μ-loop
-add-maint-cost c = search needs
-
-maint-cost-requires : tie.Need-maint-cost-requires Inv-loop μ-loop
-maint-cost-requires c κs = search needs
-
-add-price-of : tie.Need-add-price-of Inv-loop μ-loop
-add-price-of c = search needs
-
-price-of-requires : tie.Need-price-of-requires Inv-loop μ-loop
-price-of-requires c κs = search needs
-
-plus-requires : tie.Need-plus-requires Inv-loop μ-loop
+plus-requires : tie.Need-plus-requires
 plus-requires c κs = search needs
 
-plus-requires-2 : tie.Need-plus-requires-2 Inv-loop μ-loop
-plus-requires-2 c κs = search needs
+span-off-requires : tie.Need-span-off-requires
+span-off-requires c κs = search needs
 
-add-k : tie.Need-add-k Inv-loop μ-loop
-add-k c = search needs
+less-requires : tie.Need-less-requires
+less-requires c κs = search needs
 
-loop-less : tie.Need-loop-less Inv-loop μ-loop
-loop-less c = search needs
-
-loop-again : tie.Need-loop-again Inv-loop μ-loop
-loop-again c = (search needs, search needs, search needs, search priced-next)
-
-returns : tie.Need-returns Inv-loop μ-loop
-returns c = (search priced-ended, search needs)
+returns : tie.Need-returns
+returns c = (search priced-is, search needs)
 
 pub priced-cost-spec : {M : Type 1} → statement M
-priced-cost-spec =
-    tie.close
-    (tie.spec
-    Inv-loop
-    μ-loop
-    duration-requires
-    sub-first
-    loop-holds
-    add-maint-cost
-    maint-cost-requires
-    add-price-of
-    price-of-requires
-    plus-requires
-    plus-requires-2
-    add-k
-    loop-less
-    loop-again
-    returns)
+priced-cost-spec = tie.close (tie.spec span-cost-requires plus-requires span-off-requires less-requires returns)

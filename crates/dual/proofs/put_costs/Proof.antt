@@ -11,13 +11,16 @@ use Rattle.dual.proofs.put_costs.Statement.{statement}
 use Rattle.dual.proofs.put_costs.Tie as tie
 
 abbrev Inv-loop : tie.InvT-loop
-Inv-loop words l prices i table₀ least s₀ s-end table s = CostsTo (problemOf words) (priceIn prices) i s₀ s-end (least .0) s table
+Inv-loop words l prices i table₀ off least s₀ s-end table s = CostsTo (problemOf words) (priceIn prices) i s₀ s-end (least .0) s table
 
 abbrev μ-loop : tie.MeasureT-loop
-μ-loop words l prices i table₀ least s₀ s-end table s = s-end - s
+μ-loop words l prices i table₀ off least s₀ s-end table s = s-end - s
 
 starts-of-requires : tie.Need-starts-of-requires Inv-loop μ-loop
 starts-of-requires c κs = search needs
+
+off-weeks-requires : tie.Need-off-weeks-requires Inv-loop μ-loop
+off-weeks-requires c κs = search needs
 
 least-priced-requires : tie.Need-least-priced-requires Inv-loop μ-loop
 least-priced-requires c κs = search needs
@@ -42,14 +45,20 @@ loop-holds c = search put-least
 
 priced-cost-requires : tie.Need-priced-cost-requires Inv-loop μ-loop
 priced-cost-requires c κs =
-    let a = c .before .before .before .before .before .before .before .before in (
+    let a = c .before .before .before .before .before .before .before .before .before in (
       a .pre .0,
-      (a .pre .1 .0, (put-permitted _ _ _ _ _ _ _ (a .pre .0) (a .pre .1 .0) _ _ (c .before .loop .inv) (c .loop-test .taken), a .pre .1 .1 .0)),
+      (
+        a .pre .1 .0,
+        (
+          search needs,
+          (put-permitted _ _ _ _ _ _ _ (a .pre .0) (a .pre .1 .0) _ _ (c .before .loop .inv) (c .loop-test .taken), a .pre .1 .1 .0),
+        ),
+      ),
     )
 
 sub-table : tie.Need-sub-table Inv-loop μ-loop
 sub-table c =
-    let a = c .before .before .before .before .before .before .before .before .before .before .before in
+    let a = c .before .before .before .before .before .before .before .before .before .before .before .before in
     put-above _ _ _ _ _ _ _ (a .pre .0) (a .pre .1 .0) _ _ (c .before .before .before .before .loop .inv) _
     (c .before .before .before .loop-test .taken) (c .before .before .priced-cost .ensures .0)
 
@@ -67,7 +76,7 @@ mul-table-4 c = search needs
 
 slice-write-table-2 : tie.Need-slice-write-table-2 Inv-loop μ-loop
 slice-write-table-2 c =
-    let a = c .before .before .before .before .before .before .before .before .before .before .before in
+    let a = c .before .before .before .before .before .before .before .before .before .before .before .before in
     let h = c .before .before .before .before .loop .inv in
     let w = put-within _ _ _ _ _ _ _ (a .pre .0) (a .pre .1 .0) _ _ h (c .before .before .before .loop-test .taken) in
     omega (arith, w, h .long)
@@ -80,7 +89,7 @@ loop-less c = search needs
 
 loop-again : tie.Need-loop-again Inv-loop μ-loop
 loop-again c =
-    let a = c .before .before .before .before .before .before .before .before .before .before .before in
+    let a = c .before .before .before .before .before .before .before .before .before .before .before .before in
     let c′ = c .before .before .priced-cost .ensures in
     put-next _ _ _ _ _ _ _ (a .pre .0) (a .pre .1 .0) _ _ (c .before .before .before .before .loop .inv) _ _
     (c .before .before .before .loop-test .taken) (c′ .0) (c′ .1) refl
@@ -90,7 +99,7 @@ same-length c = search needs
 
 returns : tie.Need-returns Inv-loop μ-loop
 returns c =
-    let a = c .before .before .before .before .before .before .before .before in
+    let a = c .before .before .before .before .before .before .before .before .before in
     put-ended _ _ _ _ _ _ _ (a .pre .0) (a .pre .1 .0) _ _ (c .before .loop .inv) (c .loop-test .left)
 
 pub put-costs-spec : {M : Type 1} → statement M
@@ -100,6 +109,7 @@ put-costs-spec =
     Inv-loop
     μ-loop
     starts-of-requires
+    off-weeks-requires
     least-priced-requires
     cast-table
     mul-table

@@ -23,6 +23,9 @@ mul-cells c = omega (arith, table-below _ _ (c .pre .0) (c .pre .1))
 add-runnings : tie.Need-add-runnings
 add-runnings c = omega (arith, table-below _ _ (c .pre .0) (c .pre .1))
 
+add-offs : tie.Need-add-offs
+add-offs c = omega (arith, table-below _ _ (c .pre .0) (c .pre .1))
+
 add-pairs : tie.Need-add-pairs
 add-pairs c = omega (arith, table-below _ _ (c .pre .0) (c .pre .1))
 
@@ -32,4 +35,4 @@ returns c = refl
 
 pub layout-for-spec : {M : Type 1} → statement M
 layout-for-spec =
-    tie.close (tie.spec add-triples mul-maints add-maints mul-cells add-runnings add-pairs returns)
+    tie.close (tie.spec add-triples mul-maints add-maints mul-cells add-runnings add-offs add-pairs returns)

@@ -1,7 +1,8 @@
--- `instance::layout_of` meets its contract: the layout of the first two values.
+-- `instance::layout_of` meets its contract: the layout of the first two values and of the word after the running costs.
 -- Assumes nothing.
 use borrow.Author.Needs.{needs}
 use Rattle.model.specs.Words.{layoutOf}
+use Rattle.instance.proofs.OffLaws.{laid-words}
 use Rattle.instance.proofs.layout_of.Statement.{statement}
 use Rattle.instance.proofs.layout_of.Tie as tie
 
@@ -14,10 +15,27 @@ value-at-requires-2 c κs = search needs
 layout-for-requires : tie.Need-layout-for-requires
 layout-for-requires c κs = search needs
 
+cells-of-requires : tie.Need-cells-of-requires
+cells-of-requires c κs = search needs
+
+off-words-requires : tie.Need-off-words-requires
+off-words-requires c κs = search needs
+
+layout-for-requires-2 : tie.Need-layout-for-requires-2
+layout-for-requires-2 c κs = search needs
+
 returns : tie.Need-returns
 unfolding layoutOf
-returns c = cc
+returns c = search laid-words
 
 pub layout-of-spec : {M : Type 1} → statement M
 layout-of-spec =
-    tie.close (tie.spec value-at-requires value-at-requires-2 layout-for-requires returns)
+    tie.close
+    (tie.spec
+    value-at-requires
+    value-at-requires-2
+    layout-for-requires
+    cells-of-requires
+    off-words-requires
+    layout-for-requires-2
+    returns)

@@ -14,12 +14,12 @@ use Rattle.prices.proofs.climb.Statement.{statement}
 use Rattle.prices.proofs.climb.Tie as tie
 
 abbrev Inv-loop : tie.InvT-loop
-Inv-loop words l clashes root memo₀ most best₀ prices₀ push₀ kept₀ wants₀ s₀ n₀ memo best prices push kept wants s n =
+Inv-loop words l clashes offs root memo₀ most best₀ prices₀ push₀ kept₀ wants₀ s₀ n₀ memo best prices push kept wants s n =
     (n ≤ most) × (most ≤ 65536) × Fine s × Prices prices × Pushes push × Prices best
     × Right (problemOf words) memo × Others memo₀ memo × (length memo ≡ length memo₀)
 
 abbrev μ-loop : tie.MeasureT-loop
-μ-loop words l clashes root memo₀ most best₀ prices₀ push₀ kept₀ wants₀ s₀ n₀ memo best prices push kept wants s n = most - n
+μ-loop words l clashes offs root memo₀ most best₀ prices₀ push₀ kept₀ wants₀ s₀ n₀ memo best prices push kept wants s n = most - n
 
 mul-most : tie.Need-mul-most Inv-loop μ-loop
 mul-most c = search needs

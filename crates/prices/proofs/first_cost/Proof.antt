@@ -1,4 +1,4 @@
--- `prices::first_cost` meets its contract: each week so far cost no more than the dearest.
+-- `prices::first_cost` meets its contract: the cost so far is what all weeks cost OFF at most, and each week so far no more than the dearest.
 -- Assumes nothing.
 use Prim.Native.Nat.{_+_, _-_, _*_, _≤_}
 use borrow.Author.Needs.{needs}
@@ -6,10 +6,14 @@ use Rattle.prices.proofs.first_cost.Statement.{statement}
 use Rattle.prices.proofs.first_cost.Tie as tie
 
 abbrev Inv-loop : tie.InvT-loop
-Inv-loop words l prices i first duration sum₀ k₀ sum k = (k ≤ duration) × (first + duration ≤ l .weeks) × (l .weeks ≤ 52) × (sum .0 ≤ 4444304 * k)
+Inv-loop words l prices offs i first duration sum₀ k₀ sum k =
+    (k ≤ duration) × (first + duration ≤ l .weeks) × (l .weeks ≤ 52) × (sum .0 ≤ 4294967296 + 4444304 * k)
 
 abbrev μ-loop : tie.MeasureT-loop
-μ-loop words l prices i first duration sum₀ k₀ sum k = duration - k
+μ-loop words l prices offs i first duration sum₀ k₀ sum k = duration - k
+
+off-at-requires : tie.Need-off-at-requires Inv-loop μ-loop
+off-at-requires c κs = search needs
 
 loop-holds : tie.Need-loop-holds Inv-loop μ-loop
 loop-holds c = search needs
@@ -22,6 +26,15 @@ week-cost-requires c κs = (search needs, ((search needs, search needs), search 
 
 plus-requires : tie.Need-plus-requires Inv-loop μ-loop
 plus-requires c κs = search needs
+
+add-off-cost : tie.Need-add-off-cost Inv-loop μ-loop
+add-off-cost c = search needs
+
+off-cost-requires : tie.Need-off-cost-requires Inv-loop μ-loop
+off-cost-requires c κs = search needs
+
+less-requires : tie.Need-less-requires Inv-loop μ-loop
+less-requires c κs = search needs
 
 add-k : tie.Need-add-k Inv-loop μ-loop
 add-k c = search needs
@@ -41,10 +54,14 @@ first-cost-spec =
     (tie.spec
     Inv-loop
     μ-loop
+    off-at-requires
     loop-holds
     add-week-cost
     week-cost-requires
     plus-requires
+    add-off-cost
+    off-cost-requires
+    less-requires
     add-k
     loop-less
     loop-again

@@ -7,12 +7,12 @@ use Rattle.prices.proofs.least_start.Statement.{statement}
 use Rattle.prices.proofs.least_start.Tie as tie
 
 abbrev Inv-loop : tie.InvT-loop
-Inv-loop words l prices i start last duration cost₀ least₀ s₀ cost least s =
-    (last + duration ≤ l .weeks + 1) × (1 ≤ s) × (l .weeks ≤ 52) × (cost .0 ≤ 268435456 + 4444304 * s)
+Inv-loop words l prices offs i start last duration cost₀ least₀ s₀ cost least s =
+    (last + duration ≤ l .weeks + 1) × (1 ≤ s) × (l .weeks ≤ 52) × (cost .0 ≤ 8589934592 + 4694304 * s)
     × (least .cost .0 ≤ 1099511627776) × (least .start ≤ 52)
 
 abbrev μ-loop : tie.MeasureT-loop
-μ-loop words l prices i start last duration cost₀ least₀ s₀ cost least s = last - s
+μ-loop words l prices offs i start last duration cost₀ least₀ s₀ cost least s = last - s
 
 starts-of-requires : tie.Need-starts-of-requires Inv-loop μ-loop
 starts-of-requires c κs = search needs
@@ -32,26 +32,23 @@ first-cost-requires c κs = (search needs, ((search needs, search first-ends), s
 loop-holds : tie.Need-loop-holds Inv-loop μ-loop
 loop-holds c = (search last-ends, search needs, search needs, search needs, search needs, search needs)
 
-sub-week-cost : tie.Need-sub-week-cost Inv-loop μ-loop
-sub-week-cost c = search needs
+sub-old : tie.Need-sub-old Inv-loop μ-loop
+sub-old c = search needs
 
-week-cost-requires : tie.Need-week-cost-requires Inv-loop μ-loop
-week-cost-requires c κs = (search needs, ((search needs, search needs), search needs))
+add-new : tie.Need-add-new Inv-loop μ-loop
+add-new c = search needs
 
-sub-week-cost-2 : tie.Need-sub-week-cost-2 Inv-loop μ-loop
-sub-week-cost-2 c = search needs
+swap-cost-requires : tie.Need-swap-cost-requires Inv-loop μ-loop
+swap-cost-requires c κs = (search needs, ((search needs, search needs, search needs), search needs))
 
-add-week-cost : tie.Need-add-week-cost Inv-loop μ-loop
-add-week-cost c = search needs
-
-week-cost-requires-2 : tie.Need-week-cost-requires-2 Inv-loop μ-loop
-week-cost-requires-2 c κs = (search needs, ((search needs, search needs), search needs))
-
-above-requires : tie.Need-above-requires Inv-loop μ-loop
-above-requires c κs = search needs
+swap-cost-requires-2 : tie.Need-swap-cost-requires-2 Inv-loop μ-loop
+swap-cost-requires-2 c κs = (search needs, ((search needs, search needs, search needs), search needs))
 
 plus-requires : tie.Need-plus-requires Inv-loop μ-loop
 plus-requires c κs = search needs
+
+less-requires : tie.Need-less-requires Inv-loop μ-loop
+less-requires c κs = search needs
 
 add-lesser : tie.Need-add-lesser Inv-loop μ-loop
 add-lesser c = search needs
@@ -83,13 +80,12 @@ least-start-spec =
     sub-first-cost
     first-cost-requires
     loop-holds
-    sub-week-cost
-    week-cost-requires
-    sub-week-cost-2
-    add-week-cost
-    week-cost-requires-2
-    above-requires
+    sub-old
+    add-new
+    swap-cost-requires
+    swap-cost-requires-2
     plus-requires
+    less-requires
     add-lesser
     lesser-requires
     add-s

@@ -6,10 +6,10 @@ use Rattle.prices.proofs.overhauls.Statement.{statement}
 use Rattle.prices.proofs.overhauls.Tie as tie
 
 abbrev Inv-loop : tie.InvT-loop
-Inv-loop words l prices wants₀ units sum₀ i₀ wants sum i = (i ≤ units) × (units ≤ 16) × (sum .0 ≤ 1099511627776 * i)
+Inv-loop words l prices offs wants₀ units sum₀ i₀ wants sum i = (i ≤ units) × (units ≤ 16) × (sum .0 ≤ 1099511627776 * i)
 
 abbrev μ-loop : tie.MeasureT-loop
-μ-loop words l prices wants₀ units sum₀ i₀ wants sum i = units - i
+μ-loop words l prices offs wants₀ units sum₀ i₀ wants sum i = units - i
 
 loop-holds : tie.Need-loop-holds Inv-loop μ-loop
 loop-holds c = search needs

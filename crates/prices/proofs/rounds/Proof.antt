@@ -6,6 +6,9 @@ use borrow.Author.Needs.{needs}
 use Rattle.prices.proofs.rounds.Statement.{statement}
 use Rattle.prices.proofs.rounds.Tie as tie
 
+off-table-requires : tie.Need-off-table-requires
+off-table-requires c κs = search needs
+
 relaxed-requires : tie.Need-relaxed-requires
 relaxed-requires c κs = (search needs, ((search prices-none, search needs), search needs))
 
@@ -16,7 +19,7 @@ returns : tie.Need-returns
 returns c = (search prices-none, search needs)
 
 climb-requires : tie.Need-climb-requires
-climb-requires c κs = search needs
+climb-requires c κs = (search needs, (search needs, (search needs, search needs)))
 
 same-length-2 : tie.Need-same-length-2
 same-length-2 c = search needs
@@ -27,4 +30,11 @@ returns-2 c = (search needs, (search needs, search others-trans))
 pub rounds-spec : {M : Type 1} → statement M
 rounds-spec =
     tie.close
-    (tie.spec relaxed-requires same-length returns climb-requires same-length-2 returns-2)
+    (tie.spec
+    off-table-requires
+    relaxed-requires
+    same-length
+    returns
+    climb-requires
+    same-length-2
+    returns-2)

@@ -25,7 +25,7 @@ use Rattle.relaxation.proofs.+choose+choose_with.Lts-choose as choose-l
 use Rattle.relaxation.proofs.choose_with.Reads as choose-with
 use Rattle.relaxation.proofs.choose_with.Kinds as choose-with-kinds
 use Rattle.relaxation.proofs.+choose+choose_with.Lts-choose_with as choose-with-lts
-use Rattle.memo.proofs.least_cost.Reads as least-cost-reads
+use Rattle.memo.proofs.full_least.Reads as full-least-reads
 use Rattle.relaxation.proofs.better.Reads as better-reads
 use Rattle.relaxation.proofs.child.Reads as child-reads
 use Rattle.relaxation.proofs.no_gain.Reads as no-gain-reads
@@ -71,8 +71,8 @@ choose-with-claims t = (
   passed-over-reads.Learnt,
   with-reads.Asked,
   with-reads.Learnt,
-  least-cost-reads.Asked,
-  least-cost-reads.Learnt,
+  full-least-reads.Asked,
+  full-least-reads.Learnt,
   child-reads.Asked,
   child-reads.Learnt,
   choose-below t,
@@ -154,8 +154,8 @@ choose-with-returns t c = (search choose-over, (le-refl _, (search needs, search
 choose-with-with-requires : (t : ℕ) → choose-with-lts.Need-with-requires (choose-with-claims t) (choose-with-at t) choose-with.Post
 choose-with-with-requires t c κs = search needs
 
-choose-with-least-cost-requires : (t : ℕ) → choose-with-lts.Need-least-cost-requires (choose-with-claims t) (choose-with-at t) choose-with.Post
-choose-with-least-cost-requires t c κs = search needs
+choose-with-full-least-requires : (t : ℕ) → choose-with-lts.Need-full-least-requires (choose-with-claims t) (choose-with-at t) choose-with.Post
+choose-with-full-least-requires t c κs = search needs
 
 choose-with-child-requires : (t : ℕ) → choose-with-lts.Need-child-requires (choose-with-claims t) (choose-with-at t) choose-with.Post
 choose-with-child-requires t c κs = ((search needs, search needs, search needs, search needs), ((search price-in, search rest-small), search needs))
@@ -167,7 +167,7 @@ choose-with-choose-requires t c κs =
     let over = c .before .before .before .before .before .before .before .before .passed-over .ensures .1 in
     let tried = c .before .before .before .before .before .before .before .if1 .left in
     let joins = c .before .before .before .before .before .before .with .ensures in
-    let least = c .before .before .before .before .least-cost .ensures in
+    let least = c .before .before .before .before .full-least .ensures in
     let made = c .before .child .ensures in (
       omega (arith, a .pre .0),
       (
@@ -196,7 +196,7 @@ choose-with-returns-2 : (t : ℕ) → choose-with-lts.Need-returns-2 (choose-wit
 choose-with-returns-2 t c =
     let a = c .before .before .before .before .before .before .before .before .before .before .before .before .before .before in
     let joins = c .before .before .before .before .before .before .before .before .before .with .ensures in
-    let least = c .before .before .before .before .before .before .before .least-cost .ensures in
+    let least = c .before .before .before .before .before .before .before .full-least .ensures in
     let made = c .before .before .before .before .child .ensures in
     let r = c .before .before .choose .ensures in (
       choose-tried _ _ _ _ _ _ _ _ _ _ _ _ (a .pre .1 .1 .1 .1 .1 .1 .1) joins made (r .1 .0) (r .0),
@@ -227,8 +227,8 @@ pub +choose+choose-with-spec : {M : Type 1} → statement M
       passed-over-reads.Learnt,
       with-reads.Asked,
       with-reads.Learnt,
-      least-cost-reads.Asked,
-      least-cost-reads.Learnt,
+      full-least-reads.Asked,
+      full-least-reads.Learnt,
       child-reads.Asked,
       child-reads.Learnt,
       choose-below t,
@@ -239,7 +239,7 @@ pub +choose+choose-with-spec : {M : Type 1} → statement M
     (choose-with-passed-over-requires t)
     (choose-with-returns t)
     (choose-with-with-requires t)
-    (choose-with-least-cost-requires t)
+    (choose-with-full-least-requires t)
     (choose-with-child-requires t)
     (choose-with-choose-requires t)
     (choose-with-same-length t)

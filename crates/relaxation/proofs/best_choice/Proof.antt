@@ -8,8 +8,8 @@ use borrow.Author.Needs.{needs}
 use Rattle.relaxation.proofs.best_choice.Statement.{statement}
 use Rattle.relaxation.proofs.best_choice.Tie as tie
 
-least-cost-requires : tie.Need-least-cost-requires
-least-cost-requires c κs = search needs
+full-least-requires : tie.Need-full-least-requires
+full-least-requires c κs = search needs
 
 same-length : tie.Need-same-length
 same-length c = search needs
@@ -33,7 +33,7 @@ choose-requires : tie.Need-choose-requires
 choose-requires c κs =
     let a = c .before .before .before .before .before .before .before .before .before .before .before .before .before in
     let q = a .pre in
-    let least = c .before .before .before .before .before .before .before .before .before .least-cost .ensures in
+    let least = c .before .before .before .before .before .before .before .before .before .full-least .ensures in
     let left = c .before .before .before .before .prices-left .ensures in
     let y = c .before .before .before .root .ensures in (
       q .0,
@@ -50,7 +50,7 @@ returns-2 : tie.Need-returns-2
 returns-2 c =
     let a = c .before .before .before .before .before .before .before .before .before .before .before .before .before .before .before .before in
     let q = a .pre in
-    let least = c .before .before .before .before .before .before .before .before .before .before .before .before .least-cost .ensures in
+    let least = c .before .before .before .before .before .before .before .before .before .before .before .before .full-least .ensures in
     let some = c .before .before .before .before .before .before .before .before .if1 .left in
     let left = c .before .before .before .before .before .before .before .prices-left .ensures in
     let y = c .before .before .before .before .before .before .root .ensures in
@@ -64,7 +64,7 @@ pub best-choice-spec : {M : Type 1} → statement M
 best-choice-spec =
     tie.close
     (tie.spec
-    least-cost-requires
+    full-least-requires
     same-length
     returns
     prices-left-requires

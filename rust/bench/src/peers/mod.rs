@@ -57,7 +57,7 @@ fn cases(options: &Options) -> Vec<(Row, Vec<Plan>)> {
     for class in Class::all() {
         if options.has(&class) {
             let plans = (1..=options.seeds).map(|number| class.plan(number));
-            let row = Row::new(class.name(), Some((class.units, class.weeks)));
+            let row = Row::new(class.name(), Some(class));
             cases.push((row, plans.collect()));
         }
     }

@@ -8,6 +8,7 @@ pub const USAGE: &str = "usage: cargo run --release -p bench -- peers [options]
   --sizes 6x8,15x13    the sizes, units x weeks; all where not given
   --demands easy,mid   the demands; all where not given
   --windows open       the windows; all where not given
+  --off cold           whether OFF costs anything, warm, or nothing, cold; both where not given
   --seeds 5            the instances of a class
   --limit 20           the seconds that a solver has for an instance
   --budget 268435455   the tries that planner and twin have
@@ -19,6 +20,7 @@ pub struct Options {
     sizes: Vec<String>,
     demands: Vec<String>,
     windows: Vec<String>,
+    off: Vec<String>,
     /// The instances of a class.
     pub seeds: u32,
     /// The seconds that a solver has for an instance.
@@ -38,6 +40,7 @@ impl Options {
             sizes: vec![],
             demands: vec![],
             windows: vec![],
+            off: vec![],
             seeds: 5,
             limit: 20,
             budget: (1 << 28) - 1,
@@ -54,6 +57,7 @@ impl Options {
                 "--sizes" => options.sizes = list(&value, known(Class::size))?,
                 "--demands" => options.demands = list(&value, known(Class::demand))?,
                 "--windows" => options.windows = list(&value, known(Class::windows))?,
+                "--off" => options.off = list(&value, known(Class::off))?,
                 "--seeds" => options.seeds = number(&value)?,
                 "--limit" => options.limit = number(&value)?,
                 "--budget" => options.budget = number(&value)?,
@@ -72,6 +76,7 @@ impl Options {
         chosen(&self.sizes, &class.size())
             && chosen(&self.demands, &class.demand())
             && chosen(&self.windows, &class.windows())
+            && chosen(&self.off, &class.off())
     }
 }
 

@@ -1,13 +1,14 @@
 //! The table of the comparison, and how it stands with the bars.
 
 use super::solver::{Outcome, Solver, Verdict};
+use crate::classes::Class;
 use crate::table;
 
 /// A class, or the example: what each solver came to on each of its instances.
 pub struct Row {
     name: String,
-    /// Units and weeks; none for the example, which is in no bar.
-    size: Option<(u32, u32)>,
+    /// The class; none for the example, which is in no bar.
+    class: Option<Class>,
     /// For each instance, what each solver came to.
     pub files: Vec<Vec<Outcome>>,
 }
@@ -23,14 +24,14 @@ pub struct Report {
 }
 
 /// The classes that a bar is about.
-type Of = fn(u32, u32) -> bool;
+type Of = fn(&Class) -> bool;
 
 impl Row {
     /// A row without instances yet.
-    pub fn new(name: String, size: Option<(u32, u32)>) -> Self {
+    pub fn new(name: String, class: Option<Class>) -> Self {
         Row {
             name,
-            size,
+            class,
             files: vec![],
         }
     }
@@ -44,7 +45,7 @@ impl Row {
 
     /// Whether it is one of these classes.
     fn is(&self, of: Of) -> bool {
-        self.size.is_some_and(|(units, weeks)| of(units, weeks))
+        self.class.as_ref().is_some_and(of)
     }
 }
 
@@ -157,9 +158,12 @@ impl Report {
 
     /// Prints how a solver stands with the bars.
     fn print_bars(&self, solver: Solver) {
-        let large: Of = |units, weeks| matches!((units, weeks), (15, 13) | (16, 20) | (16, 52));
-        self.print_lead(solver, "15x13, 16x20, 16x52", large, 5.0, 2.0);
-        self.print_lead(solver, "14 units", |units, _| units == 14, 3.0, 1.0);
+        let large: Of = |class| !class.is_warm() && class.units >= 15;
+        let fourteen: Of = |class| !class.is_warm() && class.units == 14;
+        let warm: Of = |class| class.is_warm() && class.units >= 15;
+        self.print_lead(solver, "15x13, 16x20, 16x52", large, 5.0, Some(2.0));
+        self.print_lead(solver, "14 units", fourteen, 3.0, Some(1.0));
+        self.print_lead(solver, "15 and 16 units with OFF costs", warm, 20.0, None);
         self.print_small(solver);
         if let Solver::Planner(_) = solver {
             let ratio = |row: &Row| row.median(|file| self.to_twin(file, solver));
@@ -171,8 +175,9 @@ impl Report {
         }
     }
 
-    /// Prints a solver's lead over the best peer in some classes, and whether it is enough.
-    fn print_lead(&self, solver: Solver, sizes: &str, of: Of, bar: f64, least: f64) {
+    /// Prints a solver's lead over the best peer in some classes, and whether it is enough; the
+    /// lowest class has a bar of its own, or none.
+    fn print_lead(&self, solver: Solver, sizes: &str, of: Of, bar: f64, least: Option<f64>) {
         let rows = self.rows.iter().filter(|row| row.is(of));
         let leads = rows.filter_map(|row| row.median(|file| self.lead(file, solver)));
         let leads: Vec<f64> = leads.collect();
@@ -180,10 +185,12 @@ impl Report {
             return;
         };
         let (name, mean) = (solver.name(), mean(&leads));
+        let of_lowest = least.map_or(String::new(), |least| {
+            format!(" (at least {least}): {}", met(least <= lowest))
+        });
         println!(
-            "best peer / {name} at {sizes}: geometric mean {mean:.1} (at least {bar}): {}; lowest class {lowest:.1} (at least {least}): {}",
-            met(bar <= mean),
-            met(least <= lowest)
+            "best peer / {name} at {sizes}: geometric mean {mean:.1} (at least {bar}): {}; lowest class {lowest:.1}{of_lowest}",
+            met(bar <= mean)
         );
     }
 
@@ -191,7 +198,8 @@ impl Report {
     /// 100 ms.
     fn print_small(&self, solver: Solver) {
         let rows = self.rows.iter();
-        let rows = rows.filter(|row| row.size.is_none_or(|(units, _)| units <= 10));
+        let is_small = |class: &Class| !class.is_warm() && class.units <= 10;
+        let rows = rows.filter(|row| row.class.as_ref().is_none_or(is_small));
         let (mut quick, mut slow, mut slow_files) = (0, 0, 0);
         for row in rows {
             let own = |file: &[Outcome]| self.seconds(file, solver);

@@ -1,0 +1,54 @@
+-- `commitment::full_cost` meets its contract: a sum over all units.
+-- Assumes nothing.
+use borrow.Author.Needs.{needs}
+use Prim.Native.Nat.{_-_, _*_, _≤_}
+use mathlib.Core.Path.{_≡_}
+use Rattle.sums.specs.Sum.{sumTo}
+use Rattle.sums.proofs.LoopLaws.{sum-start, sum-next}
+use Rattle.model.specs.Words.{problemOf}
+use Rattle.model.specs.Commitment.{lineCost}
+use Rattle.commitment.proofs.LineLaws.{full-ended}
+use Rattle.commitment.proofs.full_cost.Statement.{statement}
+use Rattle.commitment.proofs.full_cost.Tie as tie
+
+abbrev Inv-loop : tie.InvT-loop
+Inv-loop words l t run units sum₀ i₀ sum i =
+    (i ≤ units) × (sum .0 ≤ 250000 * i) × (sum .0 ≡ sumTo i (lineCost (problemOf words) t run))
+
+abbrev μ-loop : tie.MeasureT-loop
+μ-loop words l t run units sum₀ i₀ sum i = units - i
+
+loop-holds : tie.Need-loop-holds Inv-loop μ-loop
+loop-holds c = (search needs, search needs, search sum-start)
+
+line-cost-requires : tie.Need-line-cost-requires Inv-loop μ-loop
+line-cost-requires c κs = search needs
+
+plus-requires : tie.Need-plus-requires Inv-loop μ-loop
+plus-requires c κs = search needs
+
+add-i : tie.Need-add-i Inv-loop μ-loop
+add-i c = search needs
+
+loop-less : tie.Need-loop-less Inv-loop μ-loop
+loop-less c = search needs
+
+loop-again : tie.Need-loop-again Inv-loop μ-loop
+loop-again c = (search needs, search needs, search sum-next)
+
+returns : tie.Need-returns Inv-loop μ-loop
+returns c = (search full-ended, search needs)
+
+pub full-cost-spec : {M : Type 1} → statement M
+full-cost-spec =
+    tie.close
+    (tie.spec
+    Inv-loop
+    μ-loop
+    loop-holds
+    line-cost-requires
+    plus-requires
+    add-i
+    loop-less
+    loop-again
+    returns)

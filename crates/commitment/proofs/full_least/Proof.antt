@@ -1,0 +1,18 @@
+-- `commitment::full_least` meets its contract: the least score tells the least cost.
+-- Assumes nothing.
+use borrow.Author.Needs.{needs}
+use Rattle.commitment.proofs.ScoreLaws.{found-cost, cost-small}
+use Rattle.commitment.proofs.full_least.Statement.{statement}
+use Rattle.commitment.proofs.full_least.Tie as tie
+
+least-score-requires : tie.Need-least-score-requires
+least-score-requires c κs = search needs
+
+cost-in-requires : tie.Need-cost-in-requires
+cost-in-requires c κs = search needs
+
+returns : tie.Need-returns
+returns c = (search found-cost, search cost-small)
+
+pub full-least-spec : {M : Type 1} → statement M
+full-least-spec = tie.close (tie.spec least-score-requires cost-in-requires returns)

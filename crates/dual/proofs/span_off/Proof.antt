@@ -1,0 +1,66 @@
+-- `dual::span_off` meets its contract: the sum so far is that of the overhaul's first weeks.
+-- Assumes nothing.
+use Prim.Native.Nat.{_+_, _-_, _*_, _≤_}
+use mathlib.Core.Path.{_≡_}
+use Rattle.sums.specs.Sum.{sumTo, shifted, turned}
+use Rattle.sums.proofs.LoopLaws.{sum-start}
+use Rattle.model.specs.Words.{problemOf}
+use Rattle.overhaul.proofs.UpkeepLaws.{start-some, ends-within}
+use Rattle.dual.proofs.CostLaws.{inside-next, span-ended}
+use borrow.Author.Needs.{needs}
+use Rattle.dual.proofs.span_off.Statement.{statement}
+use Rattle.dual.proofs.span_off.Tie as tie
+
+abbrev Inv-loop : tie.InvT-loop
+Inv-loop words l i start duration first sum₀ k₀ sum k = (k ≤ duration) × (first + duration ≤ l .weeks) × (sum .0 ≤ 250000 * k) ×
+    (sum .0 ≡ sumTo k (shifted first (turned (problemOf words .off) i)))
+
+abbrev μ-loop : tie.MeasureT-loop
+μ-loop words l i start duration first sum₀ k₀ sum k = duration - k
+
+duration-requires : tie.Need-duration-requires Inv-loop μ-loop
+duration-requires c κs = search needs
+
+sub-first : tie.Need-sub-first Inv-loop μ-loop
+sub-first c = search (needs, start-some)
+
+loop-holds : tie.Need-loop-holds Inv-loop μ-loop
+loop-holds c = (search needs, search ends-within, search needs, search sum-start)
+
+add-off-cost : tie.Need-add-off-cost Inv-loop μ-loop
+add-off-cost c = search needs
+
+off-cost-requires : tie.Need-off-cost-requires Inv-loop μ-loop
+off-cost-requires c κs = search needs
+
+plus-requires : tie.Need-plus-requires Inv-loop μ-loop
+plus-requires c κs = search needs
+
+add-k : tie.Need-add-k Inv-loop μ-loop
+add-k c = search needs
+
+loop-less : tie.Need-loop-less Inv-loop μ-loop
+loop-less c = search needs
+
+loop-again : tie.Need-loop-again Inv-loop μ-loop
+loop-again c = (search needs, search needs, search needs, search inside-next)
+
+returns : tie.Need-returns Inv-loop μ-loop
+returns c = search span-ended
+
+pub span-off-spec : {M : Type 1} → statement M
+span-off-spec =
+    tie.close
+    (tie.spec
+    Inv-loop
+    μ-loop
+    duration-requires
+    sub-first
+    loop-holds
+    add-off-cost
+    off-cost-requires
+    plus-requires
+    add-k
+    loop-less
+    loop-again
+    returns)

@@ -1,0 +1,54 @@
+-- `instance::off_sum` meets its contract: the sum so far is that of the first units.
+-- Assumes nothing.
+use Prim.Native.Nat.{_-_, _*_, _≤_}
+use mathlib.Core.Path.{_≡_}
+use Rattle.sums.specs.Sum.{sumTo}
+use Rattle.sums.specs.NumSet.{has, pick}
+use Rattle.sums.proofs.LoopLaws.{sum-start, sum-next}
+use Rattle.model.specs.Words.{problemOf}
+use Rattle.instance.proofs.RunLaws.{off-ended}
+use borrow.Author.Needs.{needs}
+use Rattle.instance.proofs.off_sum.Statement.{statement}
+use Rattle.instance.proofs.off_sum.Tie as tie
+
+abbrev Inv-loop : tie.InvT-loop
+Inv-loop words l t run units sum₀ i₀ sum i =
+    (i ≤ units) × (sum .0 ≤ 250000 * i) × (sum .0 ≡ sumTo i (pick (has run) (problemOf words .off t)))
+
+abbrev μ-loop : tie.MeasureT-loop
+μ-loop words l t run units sum₀ i₀ sum i = units - i
+
+loop-holds : tie.Need-loop-holds Inv-loop μ-loop
+loop-holds c = (search needs, search needs, search sum-start)
+
+off-part-requires : tie.Need-off-part-requires Inv-loop μ-loop
+off-part-requires c κs = search needs
+
+plus-requires : tie.Need-plus-requires Inv-loop μ-loop
+plus-requires c κs = search needs
+
+add-i : tie.Need-add-i Inv-loop μ-loop
+add-i c = search needs
+
+loop-less : tie.Need-loop-less Inv-loop μ-loop
+loop-less c = search needs
+
+loop-again : tie.Need-loop-again Inv-loop μ-loop
+loop-again c = (search needs, search needs, search sum-next)
+
+returns : tie.Need-returns Inv-loop μ-loop
+returns c = (search off-ended, search needs)
+
+pub off-sum-spec : {M : Type 1} → statement M
+off-sum-spec =
+    tie.close
+    (tie.spec
+    Inv-loop
+    μ-loop
+    loop-holds
+    off-part-requires
+    plus-requires
+    add-i
+    loop-less
+    loop-again
+    returns)
