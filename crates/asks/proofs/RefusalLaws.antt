@@ -21,7 +21,6 @@ use Rattle.model.specs.Refusal.{askFault, asksVerdict, blockSize, memoryVerdict
 use Rattle.model.specs.Asks.{ceilingAt, budgetAt}
 use Rattle.model.proofs.ReadingLaws.{refused-not}
 use Rattle.instance.specs.Filed.{Filed}
-use Rattle.instance.proofs.FiledLaws.{weeks-are, units-are}
 
 -- ---- the words of asks
 
@@ -117,7 +116,7 @@ module _ (ws : List ℕ) (l : Layout) (asks table answers scratch : ℕ) (f : Fi
   module _ (low : 64 ≤ table) (high : table ≤ 16384) (size : ℕ) (is : size ≡ 2 + 2 * l .units + l .weeks) where
     sized : asks * size ≡ asks * blockSize (problemOf ws)
     unfolding blockSize
-    sized = rw (units-are ws l f, weeks-are ws l f, is)
+    sized = rw (f .units-are, f .weeks-are, is)
 
     -- the answers have too few words
     pub answers-short : answers < asks * size → refused 14 0 ≡ memoryVerdict (problemOf ws) asks table answers scratch
@@ -133,7 +132,7 @@ module _ (ws : List ℕ) (l : Layout) (asks table answers scratch : ℕ) (f : Fi
             le-leb 64 table low,
             le-leb table 16384 high,
             le-leb (asks * blockSize (problemOf ws)) answers (rw (← sized) some),
-            units-are ws l f,
+            f .units-are,
             lt-leb (2 ^ l .units) scratch (rw (← two) h),
           )
 
@@ -145,6 +144,6 @@ module _ (ws : List ℕ) (l : Layout) (asks table answers scratch : ℕ) (f : Fi
             le-leb 64 table low,
             le-leb table 16384 high,
             le-leb (asks * blockSize (problemOf ws)) answers (rw (← sized) some),
-            units-are ws l f,
+            f .units-are,
             le-leb (2 ^ l .units) scratch (rw (← two) h),
           )

@@ -4,7 +4,7 @@ use model::Layout;
 ghost use mathlib.Core.Path.{_≡_};
 ghost use Prim.Native.Nat.{_+_, _*_, _^_, _<_, _≤_};
 ghost use lib.ListN.{length};
-ghost use Rattle.model.specs.Words.{problemOf};
+ghost use Rattle.model.specs.Words.{VALUES, problemOf};
 ghost use Rattle.model.specs.Verdict.{firstFault};
 ghost use Rattle.model.specs.Refusal.{askFault, asksVerdict, memoryVerdict, runVerdict};
 ghost use Rattle.model.specs.Asks.{ceilingAt, budgetAt};
@@ -16,17 +16,17 @@ ghost use Rattle.instance.specs.Filed.{Filed};
 // The ceiling of ask k, from 0.
 pub fn ceiling(asks: &[u32], k: usize) -> u32
     requires { ⌜ k < 32 ⌝ }
-    ensures { λ r. ⌜ (r ≡ ceilingAt (now (asks .entry)) k) × (r < 268435456) ⌝ }
+    ensures { λ r. ⌜ (r ≡ ceilingAt (now (asks .entry)) k) × (r < VALUES) ⌝ }
 {
-    instance::value_at(asks, 2 * k) as u32
+    words::value_at(asks, 2 * k) as u32
 }
 
 // Its budget of tries.
 pub fn budget(asks: &[u32], k: usize) -> u32
     requires { ⌜ k < 32 ⌝ }
-    ensures { λ r. ⌜ (r ≡ budgetAt (now (asks .entry)) k) × (r < 268435456) ⌝ }
+    ensures { λ r. ⌜ (r ≡ budgetAt (now (asks .entry)) k) × (r < VALUES) ⌝ }
 {
-    instance::value_at(asks, 2 * k + 1) as u32
+    words::value_at(asks, 2 * k + 1) as u32
 }
 
 // ---- what turns a run away
@@ -38,14 +38,14 @@ fn ask_fault(asks: &[u32], q: usize) -> u32
 {
     let word = asks[q];
     let part = q % 2;
-    let kind = instance::kind_of(word);
+    let kind = words::kind_of(word);
     if kind != 11 + part {
         return 9;
     }
     if part != 1 {
         return 0;
     }
-    if instance::value_of(word) != 0 {
+    if words::value_of(word) != 0 {
         return 0;
     }
     10

@@ -2,29 +2,24 @@
 -- Assumes nothing.
 use Prim.Native.Nat.{ℕ, _≤_, _<_}
 use mathlib.Core.Path.{_≡_, refl, sym, _∙_, subst}
-use mathlib.Core.Bool.{Bool, true, false, _&&_, _||_}
+use mathlib.Core.Bool.{Bool, true, false, _&&_}
 use mathlib.Core.Logic.{_⊎_, inl, inr}
 use native.Mathlib.Omega.{arith}
 use lib.Dec.{eqb}
 use borrow.Author.Tests.{eqb-true, eq-eqb}
 use Rattle.sums.specs.Sum.{countsOne}
 use Rattle.sums.specs.Range.{firstTo}
-use Rattle.sums.specs.NumSet.{NumSet, pick}
-use Rattle.sums.proofs.LogicLaws.{true-false, and-of, and-left, and-right, or-left, or-right, not-so}
+use Rattle.sums.specs.NumSet.{NumSet, pick, with}
+use Rattle.sums.proofs.LogicLaws.{true-false, and-of, and-left, and-right, or-left, or-right, or-at, not-so}
 use Rattle.sums.proofs.RangeLaws.{some-of, first-is}
 use Rattle.sums.proofs.SumLaws.{sum-zero}
-use Rattle.sums.proofs.NumSetLaws.{pick-agree}
+use Rattle.sums.proofs.NumSetLaws.{pick-agree, with-back}
 use Rattle.model.specs.Problem.{Problem, Fair}
 use Rattle.model.specs.Rules.{headcount}
 use Rattle.model.specs.Pairs.{joins, apart}
 use Rattle.model.specs.Plan.{Compatible}
-use Rattle.blame.specs.Placed.{joined}
 
 -- ---- excluded pairs, seen from one unit
-
-or-at : (a b : Bool) → (a || b) ≡ true → (a ≡ true) ⊎ (b ≡ true)
-or-at true b e = inl refl
-or-at false b e = inr e
 
 -- a pair of units i and j, in either order
 pub record PairOf (p : Problem) (i j : ℕ) : Type 0 where
@@ -93,22 +88,21 @@ compatible-none p a none = record {
 
 -- one unit more out, that crews are left for and that is in no excluded pair with a unit out
 pub compatible-joined : (p : Problem) (a b : NumSet) (j : ℕ) → Fair p → ((n : ℕ) → n < p .pairs → p .pairA n < p .pairB n) → Compatible p a
-    → headcount p b ≤ p .crews → ((i : ℕ) → i < p .units → b i ≡ joined a j i) → ((i : ℕ) → i < p .units → a i ≡ true → apart p j i ≡ false)
+    → headcount p b ≤ p .crews → ((i : ℕ) → i < p .units → b i ≡ with a j i) → ((i : ℕ) → i < p .units → a i ≡ true → apart p j i ≡ false)
     → Compatible p b
-unfolding joined
 compatible-joined p a b j fair order c crewed is clear = record { crewed = crewed; apart = apart-too }
   where
-    member : (i : ℕ) → i < p .units → b i ≡ true → (a i ≡ true) ⊎ (eqb i j ≡ true)
-    member i h e = or-at (a i) (eqb i j) (sym (is i h) ∙ e)
+    member : (i : ℕ) → i < p .units → b i ≡ true → (a i ≡ true) ⊎ (i ≡ j)
+    member i h e = with-back a j i (sym (is i h) ∙ e)
 
-    clash : (i : ℕ) → i < p .units → a i ≡ true → (k : ℕ) → eqb k j ≡ true → apart p k i ≡ true → ⊥
-    clash i h e k q pair = true-false (sym (subst (λ (z : ℕ). apart p z i ≡ true) (eqb-true k j q) pair) ∙ clear i h e)
+    clash : (i : ℕ) → i < p .units → a i ≡ true → (k : ℕ) → k ≡ j → apart p k i ≡ true → ⊥
+    clash i h e k q pair = true-false (sym (subst (λ (z : ℕ). apart p z i ≡ true) q pair) ∙ clear i h e)
 
-    go : (n : ℕ) → n < p .pairs → (a (p .pairA n) ≡ true) ⊎ (eqb (p .pairA n) j ≡ true) → (a (p .pairB n) ≡ true) ⊎ (eqb (p .pairB n) j ≡ true) → ⊥
+    go : (n : ℕ) → n < p .pairs → (a (p .pairA n) ≡ true) ⊎ (p .pairA n ≡ j) → (a (p .pairB n) ≡ true) ⊎ (p .pairB n ≡ j) → ⊥
     go n h (inl x) (inl y) = true-false (sym y ∙ c .apart n h x)
     go n h (inl x) (inr y) = clash (p .pairA n) (fair .pairs-a n h) x (p .pairB n) y (pair-apart p n h .1)
     go n h (inr x) (inl y) = clash (p .pairB n) (fair .pairs-b n h) y (p .pairA n) x (pair-apart p n h .0)
-    go n h (inr x) (inr y) = omega (arith, order n h, eqb-true (p .pairA n) j x, eqb-true (p .pairB n) j y)
+    go n h (inr x) (inr y) = omega (arith, order n h)
 
     apart-too : (n : ℕ) → n < p .pairs → b (p .pairA n) ≡ true → b (p .pairB n) ≡ false
     apart-too n h e = not-so (b (p .pairB n)) (λ f. go n h (member (p .pairA n) (fair .pairs-a n h) e) (member (p .pairB n) (fair .pairs-b n h) f))

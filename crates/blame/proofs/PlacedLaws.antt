@@ -1,19 +1,20 @@
 -- Units placed, a unit and a week at a time: who is out, what it costs so far; and the schedule of all units placed, which no other with these
 -- starts undercuts.
 -- Assumes nothing.
-use Prim.Native.Nat.{ℕ, zero, suc, _+_, _≤_, _<_}
+use Prim.Native.Nat.{ℕ, _+_, _≤_, _<_}
 use mathlib.Core.Path.{_≡_, refl, sym, _∙_, ap, subst, fun-ext}
 use mathlib.Core.Bool.{Bool, true, false, not, _&&_, _||_}
 use mathlib.Core.Logic.{_⊎_, inl, inr, ⊎-elim}
-use native.Mathlib.Nat.{not-suc-le-zero, le-of-suc-le-suc, eq-or-lt-of-le, le-refl}
+use native.Mathlib.Nat.{eq-or-lt-of-le, le-refl}
 use native.Mathlib.Omega.{arith}
 use lib.Dec.{ltb, eqb}
 use borrow.Author.Tests.{ltb-true, lt-ltb, le-ltb, eq-eqb, ne-eqb}
 use Rattle.sums.specs.Sum.{sumTo}
-use Rattle.sums.specs.NumSet.{NumSet, away}
+use Rattle.sums.specs.NumSet.{NumSet, away, with}
 use Rattle.sums.proofs.NumSetLaws.{pick-agree}
 use Rattle.sums.proofs.LogicLaws.{and-last-false, and-last-true, or-last-false, not-so, same-test, ltb-total}
-use Rattle.sums.proofs.SumLaws.{sum-mono, sum-same}
+use Rattle.sums.proofs.SumLaws.{sum-mono, sum-same, sum-less}
+pub use Rattle.sums.proofs.SumLaws.{sum-one}
 use Rattle.model.specs.Problem.{Problem, Fair}
 use Rattle.model.specs.Domain.{permitted}
 use Rattle.model.specs.Schedule.{Schedule, inSpan, outIn, Sound, cost}
@@ -24,7 +25,6 @@ use Rattle.model.specs.Commitment.{
   IsPick,
   Serves,
   Cheapest,
-  NoRun,
   NO_RUN,
   lineCost,
   runCost,
@@ -41,31 +41,9 @@ use Rattle.model.proofs.DomainLaws.{span-from, span-below, span-of}
 use Rattle.model.proofs.CommitmentLaws.{fewer-out, cheapest-right, cheapest-full, least-of}
 use Rattle.model.proofs.ScheduleLaws.{sound-plan, plan-sound, cost-plan}
 use Rattle.blame.specs.Closed.{Closed, Settled}
-use Rattle.blame.specs.Placed.{firstUnits, placed, partly, joined, paid, Standing, runOf, runAt, planOf}
+use Rattle.blame.specs.Placed.{firstUnits, placed, partly, paid, Standing, runOf, runAt, planOf}
 use Rattle.blame.proofs.PairLaws.{compatible-same}
 use Rattle.blame.proofs.BoundLaws.{paid-parts}
-
--- ---- sums
-
--- two sums that differ in one term
-pub sum-one : (n t : ℕ) (f g : ℕ → ℕ) → t < n → ((k : ℕ) → k < n → (k ≡ t → ⊥) → f k ≡ g k) → sumTo n g + f t ≡ sumTo n f + g t
-unfolding sumTo
-sum-one zero t f g h same = absurd (not-suc-le-zero h)
-sum-one (suc n) t f g h same =
-    ⊎-elim
-    (λ (e : t ≡ n). rw e (omega (arith, sum-same n f g (λ k l. same k (omega arith) (λ q. omega arith)))))
-    (λ (l : t < n). omega (arith, sum-one n t f g l (λ k b. same k (omega arith)), same n (omega arith) (λ q. omega arith)))
-    (eq-or-lt-of-le (le-of-suc-le-suc h))
-
--- a sum with no larger terms, and one smaller
-sum-less : (n t : ℕ) (f g : ℕ → ℕ) → t < n → f t < g t → ((k : ℕ) → k < n → f k ≤ g k) → sumTo n f < sumTo n g
-unfolding sumTo
-sum-less zero t f g h less le = absurd (not-suc-le-zero h)
-sum-less (suc n) t f g h less le =
-    ⊎-elim
-    (λ (e : t ≡ n). let z : f n < g n = subst (λ (k : ℕ). f k < g k) e less in omega (arith, sum-mono n f g (λ k l. le k (omega arith))))
-    (λ (l : t < n). omega (arith, sum-less n t f g l less (λ k b. le k (omega arith)), le n (omega arith)))
-    (eq-or-lt-of-le (le-of-suc-le-suc h))
 
 -- ---- only the units of the problem count
 
@@ -169,8 +147,7 @@ module _ (p : Problem) (starts : ℕ → ℕ) (k t i : ℕ) where
 
 module _ (p : Problem) (starts : ℕ → ℕ) (k n t i : ℕ) where
   -- one week more of its overhaul: in that week the unit joins those out
-  pub partly-here : t + 1 ≡ starts k + n → partly p starts k (n + 1) t i ≡ joined (placed p starts k t) k i
-  unfolding joined
+  pub partly-here : t + 1 ≡ starts k + n → partly p starts k (n + 1) t i ≡ with (placed p starts k t) k i
   partly-here e = partly-at p starts k t i (n + 1) true (span-of (starts k) (n + 1) t (omega arith) (omega arith)) ∙ rw (and-last-true (eqb i k))
 
   -- in the other weeks the same units are out as before

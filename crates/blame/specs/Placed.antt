@@ -30,10 +30,6 @@ unfoldable pub partly : Problem → (ℕ → ℕ) → (k n : ℕ) → ℕ → Nu
 unfolding placed
 partly p starts k n t i = placed p starts k t i || (eqb i k && inSpan (starts k) n t)
 
--- a set and one unit more
-unfoldable pub joined : NumSet → ℕ → NumSet
-joined a j i = a i || eqb i j
-
 -- what a week costs with these units out: their maintenance, and the cheapest run of the others
 unfoldable pub weekPaid : Problem → (ℕ → NumSet) → ℕ → ℕ
 weekPaid p out t = outCost p t (out t) + leastCost p t (out t)

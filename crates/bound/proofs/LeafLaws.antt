@@ -11,10 +11,9 @@ use Rattle.sums.proofs.SumLaws.{sum-same}
 use Rattle.sums.proofs.LoopLaws.{sum-next}
 use Rattle.model.specs.declared.Layout.{Layout}
 use Rattle.model.specs.Problem.{Problem}
-use Rattle.model.specs.Commitment.{outCost, leastCost}
+use Rattle.model.specs.Commitment.{NO_RUN, outCost, leastCost}
 use Rattle.model.specs.Words.{problemOf}
 use Rattle.instance.specs.Filed.{Filed}
-use Rattle.instance.proofs.FiledLaws.{weeks-are}
 use Rattle.commitment.specs.declared.Tally.{Tally}
 use Rattle.commitment.specs.Tally.{Tallies}
 use Rattle.blame.specs.Closed.{startIn}
@@ -40,10 +39,10 @@ module _ (ws : List ℕ) (l : Layout) (t word : ℕ) (y : Tally) (f : Filed ws l
       omega (arith, out-small ws l f (has (word % 65536)) t h)
 
   -- and fit a word together
-  pub paid-fits : (v : ℕ) → v ≤ 268435456 → y .cost .0 + v < 18446744073709551616
+  pub paid-fits : (v : ℕ) → v ≤ NO_RUN → y .cost .0 + v < 18446744073709551616
   paid-fits v m = omega (arith, out-most)
 
-  pub paid-most : (v r : ℕ) → v ≤ 268435456 → r ≡ y .cost .0 + v → r ≤ 272435456
+  pub paid-most : (v r : ℕ) → v ≤ NO_RUN → r ≡ y .cost .0 + v → r ≤ 272435456
   paid-most v r m e = omega (arith, out-most)
 
 -- what a week costs with the units of its row out
@@ -63,7 +62,7 @@ pub paid-ended : (ws : List ℕ) (l : Layout) (rows starts : List ℕ) (t weeks 
 unfolding paid weekPaid rowPaid
 paid-ended ws l rows starts t weeks r f h e a b is =
     let p = problemOf ws in
-    let n : t ≡ p .weeks = omega (arith, weeks-are ws l f) in
+    let n : t ≡ p .weeks = omega (arith, f .weeks-are) in
     is ∙ ap (λ (k : ℕ). sumTo k (rowPaid p rows)) n
     ∙ sum-same (p .weeks) (rowPaid p rows) (weekPaid p (placed p (startIn starts) (l .units)))
     (λ q m. ap (λ (x : NumSet). outCost p q x + leastCost p q x) (fun-ext (h .sets q m)))
@@ -72,4 +71,4 @@ paid-ended ws l rows starts t weeks r f h e a b is =
 pub row-tallies : (ws : List ℕ) (l : Layout) (rows : List ℕ) (out : ℕ → NumSet) (t weeks : ℕ) → Filed ws l → Rows
     (problemOf ws) out rows → weeks ≡ l .weeks
     → t < weeks → Tallies (problemOf ws) t (tallyOf (getD rows t 0))
-row-tallies ws l rows out t weeks f h e b = h .tallies t (omega (arith, weeks-are ws l f))
+row-tallies ws l rows out t weeks f h e b = h .tallies t (omega (arith, f .weeks-are))

@@ -10,8 +10,6 @@ use native.Mathlib.Decide.{ℕ-discrete}
 use native.Mathlib.Nat.{eq-or-lt-of-le, mul-le-mul-right, div-eq-of-lt}
 use native.Mathlib.Omega.{arith}
 use lib.Dec.{eqb}
-use mir.Syntax.{w64}
-use mir.Val.{Fits}
 use lib.ListN.{length, getD, set, replicate, length-set, length-replicate}
 use lib.Pow.{pow-mono}
 use lib.Seq.{getD-set-same, getD-set-other}
@@ -33,7 +31,6 @@ use Rattle.model.specs.Words.{problemOf}
 use Rattle.model.proofs.DomainLaws.{permits-from, permits-ends, span-from, span-below, span-of}
 use Rattle.model.proofs.FileLaws.{ranged, fair}
 use Rattle.instance.specs.Filed.{Filed}
-use Rattle.instance.proofs.FiledLaws.{weeks-are, units-are}
 use Rattle.commitment.specs.declared.Tally.{Tally}
 use Rattle.commitment.specs.Tally.{Tallies}
 use Rattle.commitment.proofs.TallyLaws.{tally-none}
@@ -114,7 +111,7 @@ module _ (ws : List ℕ) (l : Layout) (f : Filed ws l) (out : NumSet) where
   out-small t h =
       let p = problemOf ws in
       let g = ranged ws (f .passed) in
-      let b = sum-over (p .units) 250000 out (p .maint t) (λ i d. g .maint-most t i (omega (arith, weeks-are ws l f)) d) in
+      let b = sum-over (p .units) 250000 out (p .maint t) (λ i d. g .maint-most t i (omega (arith, f .weeks-are)) d) in
       omega (arith, mul-le-mul-right 250000 (g .units-most))
 
 -- the tally that was read from a word is a right one
@@ -160,23 +157,11 @@ rows-none p starts rows e = record {
 module _ (ws : List ℕ) (l : Layout) (rows starts : List ℕ) (j : ℕ) (f : Filed ws l) (d : Due (problemOf ws) rows (startIn starts) j) where
   -- it is one of the file's
   pub due-unit : j < l .units
-  due-unit = omega (arith, d .unit, units-are ws l f)
+  due-unit = omega (arith, d .unit, f .units-are)
 
   -- one of 16
   pub due-few : j < 16
   due-few = omega (arith, due-unit, f .units-most)
-
-  -- so its place in a table fits a word
-  pub due-fits : Fits w64 (j * 4)
-  due-fits = omega (arith, due-few)
-
-  -- and its own number, or the next one
-  pub due-room : (m : ℕ) → m ≤ 1 → Fits w64 (j + m)
-  due-room m h = omega (arith, due-few)
-
-  -- which is no more than the number of units
-  pub due-next : (m : ℕ) → m ≤ 1 → j + m ≤ l .units
-  due-next m h = omega (arith, due-unit)
 
   -- its start counts from 1
   pub due-some : 1 ≤ getD starts j 0
@@ -186,11 +171,11 @@ module _ (ws : List ℕ) (l : Layout) (rows starts : List ℕ) (j : ℕ) (f : Fi
   -- its overhaul ends in the season
   pub due-ends : (weeks : ℕ) → weeks ≡ problemOf ws .duration j → getD starts j 0 - 1 + weeks ≤ l .weeks
   unfolding startIn
-  due-ends weeks e = omega (arith, due-some, permits-ends (problemOf ws) j (startIn starts j) (d .permits), weeks-are ws l f)
+  due-ends weeks e = omega (arith, due-some, permits-ends (problemOf ws) j (startIn starts j) (d .permits), f .weeks-are)
 
   -- the rows hold the tallies of its weeks
   pub due-tally : (first k weeks : ℕ) → first + weeks ≤ l .weeks → k < weeks → Tallies (problemOf ws) (first + k) (tallyOf (getD rows (first + k) 0))
-  due-tally first k weeks e b = d .tallied .tallies (first + k) (omega (arith, weeks-are ws l f))
+  due-tally first k weeks e b = d .tallied .tallies (first + k) (omega (arith, f .weeks-are))
 
 -- ---- rows with one unit more, a week at a time
 

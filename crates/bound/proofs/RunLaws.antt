@@ -15,7 +15,6 @@ use Rattle.model.specs.Commitment.{runCost, Pick, nothing, picked, IsPick, Serv
 use Rattle.model.specs.Words.{problemOf}
 use Rattle.model.proofs.CommitmentLaws.{cheapest-right, cheapest-picked, none-picked, fewer-out}
 use Rattle.instance.specs.Filed.{Filed}
-use Rattle.instance.proofs.FiledLaws.{weeks-are, units-are}
 use Rattle.commitment.specs.declared.Found.{Found}
 use Rattle.commitment.specs.declared.Found.the-variants.{Nothing, Run}
 use Rattle.commitment.specs.Answers.{Answers}
@@ -65,7 +64,7 @@ run-same p t a b same = go (cheapestRun p t a) (cheapest-right p t a)
 pub due-of : (ws : List ℕ) (l : Layout) (rows : List ℕ) (starts : ℕ → ℕ) (j units : ℕ) → Filed ws l → Permits (problemOf ws) starts
     → Rows (problemOf ws) (placed (problemOf ws) starts j) rows → units ≡ l .units → j < units → Due (problemOf ws) rows starts j
 due-of ws l rows starts j units f g h e b =
-    let u : j < problemOf ws .units = omega (arith, units-are ws l f) in
+    let u : j < problemOf ws .units = omega (arith, f .units-are) in
     record { unit = u; permits = g .each j u; tallied = h }
 
 -- all of them
@@ -97,10 +96,10 @@ pub runs-ended : (ws : List ℕ) (l : Layout) (rows table : List ℕ) (starts : 
 unfolding placed runAt
 runs-ended ws l rows table starts t weeks f g h e b = record {
   each = λ q m.
-      let d : q < t = omega (arith, weeks-are ws l f) in
+      let d : q < t = omega (arith, f .weeks-are) in
       h .each q d
       ∙ ap runOf (run-same (problemOf ws) q (has (getD rows q 0 % 65536)) (outIn (problemOf ws) starts q) (λ i k. g .sets q m i ∙ out q i k));
 }
   where
     out : (q i : ℕ) → i < problemOf ws .units → placed (problemOf ws) starts (l .units) q i ≡ outIn (problemOf ws) starts q i
-    out q i k = rw (lt-ltb i (l .units) (omega (arith, units-are ws l f)))
+    out q i k = rw (lt-ltb i (l .units) (omega (arith, f .units-are)))

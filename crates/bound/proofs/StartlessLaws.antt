@@ -14,7 +14,6 @@ use Rattle.model.specs.declared.Layout.{Layout}
 use Rattle.model.specs.Domain.{startCount}
 use Rattle.model.specs.Words.{problemOf}
 use Rattle.instance.specs.Filed.{Filed}
-use Rattle.instance.proofs.FiledLaws.{weeks-are, units-are}
 use Rattle.overhaul.specs.Range.{StartRange}
 use Rattle.overhaul.proofs.StartLaws.{start-count}
 use Rattle.bound.specs.Tests.{noStart, someStartless}
@@ -22,13 +21,13 @@ use Rattle.bound.specs.Tests.{noStart, someStartless}
 -- a unit whose last start lies before its first has none, and the others have one
 module _ (ws : List ℕ) (l : Layout) (i a b : ℕ) (f : Filed ws l) (range : StartRange (problemOf ws) i a b) (ends : b ≤ l .weeks) where
   counted : startCount (problemOf ws) i ≡ b + 1 - a
-  counted = start-count (problemOf ws) i a b range (rw (weeks-are ws l f) ends)
+  counted = start-count (problemOf ws) i a b range (rw (f .weeks-are) ends)
 
   -- one is found
   pub startless-found : i < l .units → b < a → true ≡ someStartless (problemOf ws)
   unfolding someStartless noStart
   startless-found h e =
-      sym (some-of (problemOf ws .units) (noStart (problemOf ws)) i (rw (units-are ws l f) h) (eq-eqb (startCount (problemOf ws) i) 0 (omega
+      sym (some-of (problemOf ws .units) (noStart (problemOf ws)) i (rw (f .units-are) h) (eq-eqb (startCount (problemOf ws) i) 0 (omega
       (arith, counted))))
 
   -- this one has a start
@@ -43,4 +42,4 @@ pub startless-ended : (ws : List ℕ) (l : Layout) (i : ℕ) → Filed ws l → 
     → false ≡ someStartless (problemOf ws)
 unfolding someStartless
 startless-ended ws l i f h m n =
-    some-ended (noStart (problemOf ws)) i (problemOf ws .units) false (omega (arith, units-are ws l f)) (omega (arith, units-are ws l f)) (sym h)
+    some-ended (noStart (problemOf ws)) i (problemOf ws .units) false (omega (arith, f .units-are)) (omega (arith, f .units-are)) (sym h)

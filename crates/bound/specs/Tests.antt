@@ -1,37 +1,52 @@
 -- What the tests of a start say: it holds, and the units placed stand with this lower bound; or some units' starts are a dead end.
 -- Assumes nothing.
-use Prim.Native.Nat.{ℕ, _+_, _%_, _≤_, _<_}
+use Prim.Native.Nat.{ℕ, _+_, _-_, _%_, _≤_, _<_}
 use mathlib.Core.Path.{_≡_}
 use mathlib.Core.Bool.{Bool, true}
 use mathlib.Core.List.{List}
 use lib.ListN.{length, getD}
 use lib.Dec.{eqb}
 use Rattle.sums.specs.Range.{someTo}
-use Rattle.sums.specs.NumSet.{NumSet, has}
+use Rattle.sums.specs.NumSet.{NumSet, has, with}
+use Rattle.model.specs.declared.Layout.{Layout}
 use Rattle.model.specs.Problem.{Problem}
 use Rattle.model.specs.Domain.{permitted, startCount}
+use Rattle.model.specs.Rules.{headcount}
 use Rattle.model.specs.Schedule.{outIn}
 use Rattle.model.specs.Commitment.{fullLeast, NO_RUN}
 use Rattle.model.specs.Plan.{Compatible}
+use Rattle.model.specs.Nogood.{MOST_LIMIT}
+use Rattle.model.specs.Words.{problemOf}
+use Rattle.instance.specs.Filed.{Filed}
 use Rattle.commitment.specs.Tally.{Tallies}
-use Rattle.blame.specs.Closed.{Closed}
-use Rattle.blame.specs.Placed.{firstUnits, placed, joined, Standing, runAt}
+use Rattle.blame.specs.Closed.{startIn, Closed}
+use Rattle.blame.specs.Placed.{firstUnits, placed, partly, Standing, runAt}
 use Rattle.blame.specs.Priced.{WeekLeast}
-use Rattle.dual.specs.Dual.{worthIn, Bounds}
+use Rattle.tables.specs.Tables.{priceIn, excessIn, rootIn, totalIn}
+use Rattle.relaxation.specs.Relaxed.{Recalls}
+use Rattle.dual.specs.declared.Node.{Node}
+use Rattle.dual.specs.Dual.{Dual, worthIn, Bounds}
+use Rattle.dual.specs.Blame.{PermitsTo, withBound}
 use Rattle.bound.specs.Rows.{tallyOf, Rows}
 use Rattle.bound.specs.declared.Trial.{Trial}
 use Rattle.bound.specs.declared.Trial.the-variants.{Holds, Fails}
+
+-- ---- dead ends
 
 -- the starts of the units of b, all below k, are a dead end below the limit
 pub record Blames (p : Problem) (starts : ℕ → ℕ) (k limit b : ℕ) : Type 0 where
   pub closed : Closed p (has b) starts limit
   pub within : (i : ℕ) → has b i ≡ true → i < k
 
--- unit j is to be placed at its permitted start; the rows hold the units below it
-pub record Due (p : Problem) (rows : List ℕ) (starts : ℕ → ℕ) (j : ℕ) : Type 0 where
-  pub unit : j < p .units
-  pub permits : permitted p j (starts j) ≡ true
-  pub tallied : Rows p (placed p starts j) rows
+-- the starts of these units, all below k, are a dead end below every limit: no sound schedule has them
+pub record Shuts (p : Problem) (starts : ℕ → ℕ) (k b : ℕ) : Type 0 where
+  pub blames : (limit : ℕ) → Blames p starts k limit b
+
+-- the units of b may not be out together in week t: starts that say so are a dead end below every limit
+pub record OutShuts (p : Problem) (t b : ℕ) : Type 0 where
+  pub closed : (starts : ℕ → ℕ) → ((i : ℕ) → has b i ≡ true → outIn p starts t i ≡ true) → (limit : ℕ) → Closed p (has b) starts limit
+
+-- ---- a week
 
 -- week t of unit j's overhaul: a word with the tally of the units out, all below j, who may be out together
 pub record WeekDue (p : Problem) (j t word : ℕ) : Type 0 where
@@ -39,20 +54,28 @@ pub record WeekDue (p : Problem) (j t word : ℕ) : Type 0 where
   pub within : (i : ℕ) → has (word % 65536) i ≡ true → i < j
   pub compatible : Compatible p (has (word % 65536))
 
--- the starts of these units, all below k, are a dead end below every limit: no sound schedule has them
-pub record Shuts (p : Problem) (starts : ℕ → ℕ) (k b : ℕ) : Type 0 where
-  pub blames : (limit : ℕ) → Blames p starts k limit b
+-- there are crews for the units out in week t, the others leave a run, and the week is worth at least v
+pub record OutHolds (p : Problem) (u : ℕ → ℕ → ℕ) (t : ℕ) (a : NumSet) (v : ℕ) : Type 0 where
+  pub crewed : headcount p a ≤ p .crews
+  pub serves : fullLeast p t a < NO_RUN
+  pub least : WeekLeast p u t a v
+  pub small : v ≤ NO_RUN
 
--- the units of b, all of a or unit j, may not be out together in week t: starts that say so are a dead end below every limit
+-- the test of who is out in a week; where it fails all of them are to blame
+abbrev pub OutTested : Problem → (u : ℕ → ℕ → ℕ) → (t out : ℕ) → Trial → Type 0
+OutTested p u t out (Holds r) = OutHolds p u t (has out) (r .0)
+OutTested p u t out (Fails b) = (b ≡ out) × OutShuts p t b
+
+-- the units of b, all of a or unit j, may not be out together in week t
 pub record WeekShuts (p : Problem) (a : NumSet) (j t b : ℕ) : Type 0 where
-  pub within : (i : ℕ) → has b i ≡ true → joined a j i ≡ true
-  pub closed : (starts : ℕ → ℕ) → ((i : ℕ) → has b i ≡ true → outIn p starts t i ≡ true) → (limit : ℕ) → Closed p (has b) starts limit
+  pub within : (i : ℕ) → has b i ≡ true → with a j i ≡ true
+  pub shuts : OutShuts p t b
 
 -- week t holds with unit j out as well, and is worth at least v
 pub record WeekHolds (p : Problem) (u : ℕ → ℕ → ℕ) (a : NumSet) (j t v : ℕ) : Type 0 where
-  pub compatible : Compatible p (joined a j)
-  pub serves : fullLeast p t (joined a j) < NO_RUN
-  pub least : WeekLeast p u t (joined a j) v
+  pub compatible : Compatible p (with a j)
+  pub serves : fullLeast p t (with a j) < NO_RUN
+  pub least : WeekLeast p u t (with a j) v
   pub small : v ≤ NO_RUN
 
 -- the test of a week, by the word with its tally
@@ -60,46 +83,129 @@ abbrev pub WeekTested : Problem → (u : ℕ → ℕ → ℕ) → (j t word : �
 WeekTested p u j t word (Holds r) = WeekHolds p u (has (word % 65536)) j t (r .0)
 WeekTested p u j t word (Fails b) = WeekShuts p (has (word % 65536)) j t b
 
+-- ---- the weeks of an overhaul
+
+-- unit j is to be placed at its permitted start; the rows hold the units below it
+pub record Due (p : Problem) (rows : List ℕ) (starts : ℕ → ℕ) (j : ℕ) : Type 0 where
+  pub unit : j < p .units
+  pub permits : permitted p j (starts j) ≡ true
+  pub tallied : Rows p (placed p starts j) rows
+
+-- the node's unit is one of the problem's, at a permitted start
+pub record StartPermitted (p : Problem) (node : Node) : Type 0 where
+  pub unit : node .unit < p .units
+  pub permits : permitted p (node .unit) (startIn (node .starts) (node .unit)) ≡ true
+
+-- the weeks of its overhaul
+pub record OverhaulWeeks (p : Problem) (node : Node) (first end : ℕ) : Type 0 where
+  pub start : startIn (node .starts) (node .unit) ≡ first + 1
+  pub last : end ≡ first + p .duration (node .unit)
+  pub season : end ≤ p .weeks
+
+-- unit j out in the weeks of its overhaul before week t: in each week the units out may be out together and leave a run, and r is a lower bound
+pub record TestedTo (p : Problem) (us : List ℕ) (starts : ℕ → ℕ) (j t : ℕ) (xs : List ℕ) (r : ℕ) : Type 0 where
+  pub compatible : (q : ℕ) → q < p .weeks → Compatible p (partly p starts j (t + 1 - starts j) q)
+  pub served : (q : ℕ) → q < p .weeks → fullLeast p q (partly p starts j (t + 1 - starts j) q) < NO_RUN
+  pub bounds : Bounds p us (firstUnits (j + 1)) starts xs r
+
+-- week t as well, or a dead end below every limit
+abbrev pub WeeksTested : Problem → (us : List ℕ) → (starts : ℕ → ℕ) → (j t : ℕ) → List ℕ → Trial → Type 0
+WeeksTested p us starts j t xs (Holds r) = TestedTo p us starts j (t + 1) xs (r .0)
+WeeksTested p us starts j t xs (Fails b) = Shuts p starts (j + 1) b
+
+-- the test of the weeks of unit j's overhaul, as far as the bound stays below what is wanted
+abbrev pub Tested : Problem → (us : List ℕ) → (starts : ℕ → ℕ) → (j wanted : ℕ) → List ℕ → Trial → Type 0
+Tested p us starts j wanted xs (Holds r) = Bounds p us (firstUnits (j + 1)) starts xs (r .0) × (r .0 < wanted → Standing p starts (j + 1))
+Tested p us starts j wanted xs (Fails b) = Shuts p starts (j + 1) b
+
+-- ---- a start
+
 -- the first k units stand, and r is a lower bound of all schedules with their starts, by the weeks' worths
-pub record Stands (p : Problem) (u : ℕ → ℕ → ℕ) (costs : List ℕ) (starts : ℕ → ℕ) (k : ℕ) (xs : List ℕ) (r : ℕ) : Type 0 where
+pub record Stands (p : Problem) (us : List ℕ) (starts : ℕ → ℕ) (k : ℕ) (xs : List ℕ) (r : ℕ) : Type 0 where
   pub standing : Standing p starts k
-  pub bounds : Bounds p u costs (firstUnits k) starts xs r
+  pub bounds : Bounds p us (firstUnits k) starts xs r
 
--- before any unit is placed r is a lower bound
-pub record AllStand (p : Problem) (u : ℕ → ℕ → ℕ) (costs xs : List ℕ) (r : ℕ) : Type 0 where
-  pub each : (starts : ℕ → ℕ) → Stands p u costs starts 0 xs r
+-- a start is judged: one unit more stands; or some of them are a dead end
+abbrev pub Judged : Problem → (us : List ℕ) → Node → (limit : ℕ) → List ℕ → Trial → Type 0
+Judged p us node limit xs (Holds r) = Stands p us (startIn (node .starts)) (node .unit + 1) xs (r .0)
+Judged p us node limit xs (Fails b) = Blames p (startIn (node .starts)) (node .unit + 1) limit b
 
--- before any unit is placed nothing is left below the limit
+-- ---- what the functions ask
+
+-- a bound to which a start of the node's unit can be added
+pub record StartBounded (node : Node) : Type 0 where
+  pub unit : node .unit < 16
+  pub start : getD (node .starts) (node .unit) 0 < 64
+  pub small : node .bound .0 ≤ 18253611008
+
+-- with that start
+abbrev pub withStart : List ℕ → Node → Node
+withStart us node = withBound node (record { 0 = node .bound .0 + excessIn us (node .unit) (startIn (node .starts) (node .unit)) })
+
+-- before the weeks of an overhaul: the node's unit is due, those below it stand, and the node's bound has its start in it
+pub record StartDue (ws : List ℕ) (l : Layout) (us rows : List ℕ) (node : Node) (xs memo : List ℕ) : Type 0 where
+  pub filed : Filed ws l
+  pub dual : Dual (problemOf ws) us
+  pub due : Due (problemOf ws) rows (startIn (node .starts)) (node .unit)
+  pub standing : Standing (problemOf ws) (startIn (node .starts)) (node .unit)
+  pub bounds : Bounds (problemOf ws) us (firstUnits (node .unit + 1)) (startIn (node .starts)) xs (node .bound .0)
+  pub recalls : Recalls (problemOf ws) (priceIn us) memo
+
+-- before week t of it: the weeks before are tested, at the node's bound
+pub record WeeksDue (ws : List ℕ) (l : Layout) (us rows : List ℕ) (node : Node) (t : ℕ) (xs memo : List ℕ) : Type 0 where
+  pub filed : Filed ws l
+  pub dual : Dual (problemOf ws) us
+  pub due : Due (problemOf ws) rows (startIn (node .starts)) (node .unit)
+  pub standing : Standing (problemOf ws) (startIn (node .starts)) (node .unit)
+  pub from : startIn (node .starts) (node .unit) ≤ t + 1
+  pub before : t + 1 < startIn (node .starts) (node .unit) + problemOf ws .duration (node .unit)
+  pub season : t < l .weeks
+  pub tested : TestedTo (problemOf ws) us (startIn (node .starts)) (node .unit) t xs (node .bound .0)
+  pub recalls : Recalls (problemOf ws) (priceIn us) memo
+
+-- a verdict of the weeks that is to be weighed against a limit
+pub record Weighing (ws : List ℕ) (l : Layout) (us : List ℕ) (node : Node) (v : Trial) (limit : ℕ) (xs : List ℕ) : Type 0 where
+  pub filed : Filed ws l
+  pub dual : Dual (problemOf ws) us
+  pub unit : node .unit < l .units
+  pub permits : PermitsTo (problemOf ws) (startIn (node .starts)) (node .unit + 1)
+  pub tested : Tested (problemOf ws) us (startIn (node .starts)) (node .unit) (limit + totalIn us) xs v
+  pub small : limit ≤ MOST_LIMIT
+
+-- before the start of the node's unit is tested: those below it stand at the node's bound
+pub record TestDue (ws : List ℕ) (l : Layout) (us rows : List ℕ) (node : Node) (limit : ℕ) (xs memo : List ℕ) : Type 0 where
+  pub filed : Filed ws l
+  pub dual : Dual (problemOf ws) us
+  pub due : Due (problemOf ws) rows (startIn (node .starts)) (node .unit)
+  pub stands : Stands (problemOf ws) us (startIn (node .starts)) (node .unit) xs (node .bound .0)
+  pub small : limit ≤ MOST_LIMIT
+  pub recalls : Recalls (problemOf ws) (priceIn us) memo
+
+-- before any unit is placed
+pub record RootDue (ws : List ℕ) (l : Layout) (us : List ℕ) (limit : ℕ) : Type 0 where
+  pub filed : Filed ws l
+  pub dual : Dual (problemOf ws) us
+  pub small : limit ≤ MOST_LIMIT
+
+-- ---- before any unit is placed
+
+-- r is a lower bound, whatever the starts
+pub record AllStand (p : Problem) (us xs : List ℕ) (r : ℕ) : Type 0 where
+  pub each : (starts : ℕ → ℕ) → Stands p us starts 0 xs r
+
+-- nothing is left below the limit
 pub record AllBlame (p : Problem) (limit b : ℕ) : Type 0 where
   pub each : (starts : ℕ → ℕ) → Blames p starts 0 limit b
 
--- the test of the weeks of unit j's overhaul, as far as the bound stays below what is wanted
-abbrev pub Tested : Problem → (u : ℕ → ℕ → ℕ) → List ℕ → (starts : ℕ → ℕ) → (j wanted : ℕ) → List ℕ → Trial → Type 0
-Tested p u costs starts j wanted xs (Holds r) = Bounds p u costs (firstUnits (j + 1)) starts xs (r .0) × (r .0 < wanted → Standing p starts (j + 1))
-Tested p u costs starts j wanted xs (Fails b) = Shuts p starts (j + 1) b
-
--- a start is judged: the first k units stand; or some of them are a dead end
-abbrev pub Judged : Problem → (u : ℕ → ℕ → ℕ) → List ℕ → (starts : ℕ → ℕ) → (k limit : ℕ) → List ℕ → Trial → Type 0
-Judged p u costs starts k limit xs (Holds r) = Stands p u costs starts k xs (r .0)
-Judged p u costs starts k limit xs (Fails b) = Blames p starts k limit b
-
 -- the weeks' worths with nobody out
-pub record Fronts (roots xs : List ℕ) : Type 0 where
+pub record Fronts (us xs : List ℕ) : Type 0 where
   pub long : length xs ≡ 52
-  pub each : (t : ℕ) → t < 52 → worthIn xs t ≡ worthIn roots t
+  pub each : (t : ℕ) → t < 52 → worthIn xs t ≡ rootIn us t
 
 -- no unit is placed, whatever the starts: r is a lower bound; or nothing is left below the limit, and nobody is to blame
-abbrev pub Rooted : Problem → (u : ℕ → ℕ → ℕ) → (costs roots : List ℕ) → ℕ → Trial → Type 0
-Rooted p u costs roots limit (Holds r) = (xs : List ℕ) → Fronts roots xs → AllStand p u costs xs (r .0)
-Rooted p u costs roots limit (Fails b) = AllBlame p limit b
-
--- every unit's start is permitted
-pub record Permits (p : Problem) (starts : ℕ → ℕ) : Type 0 where
-  pub each : (i : ℕ) → i < p .units → permitted p i (starts i) ≡ true
-
--- the cheapest runs of all weeks, with the units out that these starts say
-pub record RunsOf (p : Problem) (starts : ℕ → ℕ) (runs : List ℕ) : Type 0 where
-  pub each : (t : ℕ) → t < p .weeks → getD runs t 0 ≡ runAt p starts t
+abbrev pub Rooted : Problem → (us : List ℕ) → ℕ → Trial → Type 0
+Rooted p us limit (Holds r) = (xs : List ℕ) → Fronts us xs → AllStand p us xs (r .0)
+Rooted p us limit (Fails b) = AllBlame p limit b
 
 -- unit i has no permitted start
 unfoldable pub noStart : Problem → ℕ → Bool
@@ -109,3 +215,13 @@ noStart p i = eqb (startCount p i) 0
 unfoldable pub someStartless : Problem → Bool
 unfolding noStart
 someStartless p = someTo (p .units) (noStart p)
+
+-- ---- all units placed
+
+-- every unit's start is permitted
+pub record Permits (p : Problem) (starts : ℕ → ℕ) : Type 0 where
+  pub each : (i : ℕ) → i < p .units → permitted p i (starts i) ≡ true
+
+-- the cheapest runs of all weeks, with the units out that these starts say
+pub record RunsOf (p : Problem) (starts : ℕ → ℕ) (runs : List ℕ) : Type 0 where
+  pub each : (t : ℕ) → t < p .weeks → getD runs t 0 ≡ runAt p starts t

@@ -3,24 +3,28 @@
 // Weeks and units count from 0, starts from 1.
 use commitment::Found;
 use commitment::Tally;
+use dual::Node;
 use instance::Euro;
 use model::Layout;
+use model::NO_RUN;
+use tables::TABLES;
 ghost use mathlib.Core.Path.{_≡_};
 ghost use Prim.Native.Nat.{_+_, _-_, _%_, _<_, _≤_};
-ghost use lib.ListN.{length, replicate};
+ghost use lib.ListN.{length, getD, set, replicate};
 ghost use Rattle.sums.specs.Sum.{sumTo};
 ghost use Rattle.sums.specs.NumSet.{has};
 ghost use Rattle.model.specs.Words.{problemOf};
-ghost use Rattle.model.specs.Commitment.{outCost, leastCost, cheapestRun};
+ghost use Rattle.model.specs.Commitment.{NO_RUN, outCost, leastCost, cheapestRun};
 ghost use Rattle.instance.specs.Filed.{Filed};
 ghost use Rattle.commitment.specs.Tally.{Tallies};
+ghost use Rattle.memo.specs.Memo.{Right, Others};
 ghost use Rattle.blame.specs.Closed.{startIn};
-ghost use Rattle.blame.specs.Placed.{firstUnits, placed, paid, Standing, runOf};
-ghost use Rattle.relaxation.specs.Clashes.{Clashes};
-ghost use Rattle.relaxation.specs.Relaxed.{priceIn, Prices, Recalls};
-ghost use Rattle.dual.specs.Dual.{leastIn, Dual, Bounds};
+ghost use Rattle.blame.specs.Placed.{placed, paid, runOf};
+ghost use Rattle.tables.specs.Tables.{TABLES, priceIn, leastIn};
+ghost use Rattle.relaxation.specs.Relaxed.{WeekAt, Recalls};
 ghost use Rattle.bound.specs.Rows.{tallyOf, wordOf, Packs, Rows, Joins};
-ghost use Rattle.bound.specs.Tests.{Due, WeekDue, WeekTested, Stands, Tested, Judged, Fronts, Rooted};
+ghost use Rattle.bound.specs.Tests.{Due, WeekDue, OutTested, WeekTested, WeeksTested, Tested, Judged, Fronts, Rooted};
+ghost use Rattle.bound.specs.Tests.{StartPermitted, OverhaulWeeks, StartBounded, withStart, StartDue, WeeksDue, Weighing, TestDue, RootDue};
 ghost use Rattle.bound.specs.Tests.{someStartless, Permits, RunsOf};
 
 // A start holds, and the lower bound with it is this; or it fails, by the starts of these units.
@@ -91,104 +95,201 @@ pub fn no_rows() -> [u64; 52]
     [0; 52]
 }
 
+// The weeks of an overhaul, from the first to before the end.
+struct Weeks {
+    first: usize,
+    end: usize,
+}
+
+// Those of the unit that is to be placed.
+fn overhaul_weeks(words: &[u32], l: Layout, node: Node) -> Weeks
+    requires { ⌜ Filed (now words) l × StartPermitted (problemOf (now words)) node ⌝ }
+    ensures { λ r. ⌜ OverhaulWeeks (problemOf (now (words .entry))) node (r .first) (r .end) ⌝ }
+{
+    let starts = node.starts;
+    let j = node.unit;
+    let first = starts[j] as usize - 1;
+    let weeks = instance::duration(words, l, j);
+    Weeks {
+        first,
+        end: first + weeks,
+    }
+}
+
 // ---- tests of a start
 
-// Week t with unit j out as well: the excluded pairs (8), the crews (7), a run that meets the demand (1); and what the week is worth then.
-fn test_week(
+// Week t with the units of a tally out: the crews (7), a run that meets the demand (1); and what the week is worth then.
+fn test_out(
     words: &[u32],
     l: Layout,
-    prices: &[u32; 832],
-    clashes: &[u32; 16],
-    j: usize,
+    tables: &[u32; TABLES],
     t: usize,
-    word: u64,
+    y: Tally,
     memo: &mut [u32],
 ) -> Trial
-    requires { ⌜ Filed (now words) l ⌝ }
-    requires { ⌜ (t < l .weeks) × (j < l .units) ⌝ }
-    requires { ⌜ Prices (now prices) × Clashes (problemOf (now words)) (l .units) (now clashes) ⌝ }
-    requires { ⌜ WeekDue (problemOf (now words)) j t word ⌝ }
-    requires { ⌜ Recalls (problemOf (now words)) (priceIn (now prices)) (now memo) ⌝ }
-    ensures answer { λ r. ⌜ WeekTested (problemOf (now (words .entry))) (priceIn (now (prices .entry))) j t word r ⌝ }
-    ensures recalls { λ r. ⌜ Recalls (problemOf (now (words .entry))) (priceIn (now (prices .entry))) (now (memo .exit)) ⌝ }
+    requires { ⌜ WeekAt (now words) l (now tables) t × Tallies (problemOf (now words)) t y × Recalls (problemOf (now words)) (priceIn (now tables)) (now memo) ⌝ }
+    ensures answer { λ r. ⌜ OutTested (problemOf (now (words .entry))) (priceIn (now (tables .entry))) t (y .out) r ⌝ }
+    ensures recalls { λ r. ⌜ Recalls (problemOf (now (words .entry))) (priceIn (now (tables .entry))) (now (memo .exit)) ⌝ }
 {
-    let y = tally(word);
-    let clash = clashes[j];
-    let both = sets::intersection(y.out, clash);
-    if both != 0 {
-        return Trial::Fails(sets::with(both, j));
-    }
-    let z = y.with_unit(words, l, t, j);
-    let out = z.out;
-    if instance::crews(words, l) < z.count {
+    let out = y.out;
+    if instance::crews(words, l) < y.count {
         return Trial::Fails(out);
     }
-    let worth = relaxation::week_value(words, l, prices, clashes, t, out, memo);
-    // 2^28 stands for no run.
-    if 268435456 <= worth.0 {
+    let worth = relaxation::week_value(words, l, tables, t, out, memo);
+    if NO_RUN <= worth.0 {
         return Trial::Fails(out);
     }
     Trial::Holds(worth)
 }
 
-// A bound in which one week's worth gives way to another.
-fn exchanged(sum: Euro, before: u32, after: Euro) -> Euro
-    requires { ⌜ (sum .0 ≤ 1099511627776) × (after .0 ≤ 268435456) ⌝ }
-    ensures { λ r. ⌜ r .0 ≡ sum .0 + after .0 - before ⌝ }
+// Week t with unit j out as well: the excluded pairs (8), then the tests of all who are out.
+fn test_week(
+    words: &[u32],
+    l: Layout,
+    tables: &[u32; TABLES],
+    j: usize,
+    t: usize,
+    word: u64,
+    memo: &mut [u32],
+) -> Trial
+    requires { ⌜ WeekAt (now words) l (now tables) t × (j < l .units) × WeekDue (problemOf (now words)) j t word
+        × Recalls (problemOf (now words)) (priceIn (now tables)) (now memo) ⌝ }
+    ensures answer { λ r. ⌜ WeekTested (problemOf (now (words .entry))) (priceIn (now (tables .entry))) j t word r ⌝ }
+    ensures recalls { λ r. ⌜ Recalls (problemOf (now (words .entry))) (priceIn (now (tables .entry))) (now (memo .exit)) ⌝ }
 {
-    let more = sum.0 + after.0;
-    let less = before as u64;
-    if more < less {
-        return Euro(0);
+    let y = tally(word);
+    let both = sets::intersection(y.out, tables::partners(tables, j));
+    if both != 0 {
+        return Trial::Fails(sets::with(both, j));
     }
-    Euro(more - less)
+    test_out(words, l, tables, t, y.with_unit(words, l, t, j), memo)
 }
 
-// Unit j at its start, on the weeks of its overhaul, as far as the bound stays below what is wanted.
+// A bound in which one week's worth gives way to another.
+fn exchanged(sum: Euro, before: u32, after: Euro) -> Euro
+    requires { ⌜ (sum .0 ≤ 1099511627776) × (after .0 ≤ NO_RUN) ⌝ }
+    ensures { λ r. ⌜ r .0 ≡ sum .0 + after .0 - before ⌝ }
+{
+    sum.plus(after).less(tables::amount(before))
+}
+
+// Writes what week t is worth now, and gives the bound with it.
+fn put_worth(sum: Euro, t: usize, worth: Euro, worths: &mut [u32]) -> Euro
+    requires { ⌜ (sum .0 ≤ 1099511627776) × (worth .0 ≤ NO_RUN) × (t < 52) × (length (now worths) ≡ 52) ⌝ }
+    ensures sum { λ r. ⌜ r .0 ≡ sum .0 + worth .0 - getD (now (worths .entry)) t 0 ⌝ }
+    ensures worths { λ r. ⌜ now (worths .exit) ≡ set (now (worths .entry)) t (worth .0) ⌝ }
+{
+    let total = exchanged(sum, worths[t], worth);
+    worths[t] = worth.0 as u32;
+    total
+}
+
+// Week t of unit j's overhaul, at the bound of the weeks before it; where it holds its worth is written, and the bound with it given.
+fn test_next(
+    words: &[u32],
+    l: Layout,
+    tables: &[u32; TABLES],
+    rows: &[u64; 52],
+    node: Node,
+    t: usize,
+    worths: &mut [u32],
+    memo: &mut [u32],
+) -> Trial
+    requires { ⌜ WeeksDue (now words) l (now tables) (now rows) node t (now worths) (now memo) ⌝ }
+    ensures answer { λ r. ⌜ WeeksTested (problemOf (now (words .entry))) (now (tables .entry)) (startIn (node .starts)) (node .unit) t (now (worths .exit)) r ⌝ }
+    ensures recalls { λ r. ⌜ Recalls (problemOf (now (words .entry))) (priceIn (now (tables .entry))) (now (memo .exit)) ⌝ }
+{
+    let v = test_week(words, l, tables, node.unit, t, rows[t], memo);
+    match v {
+        Trial::Fails(b) => Trial::Fails(b),
+        Trial::Holds(worth) => {
+            let sum = node.bound;
+            Trial::Holds(put_worth(sum, t, worth, worths))
+        }
+    }
+}
+
+// Unit j at its start, on the weeks of its overhaul, as far as the bound stays below what is wanted. The node's bound has the unit's start in it.
 fn test_weeks(
     words: &[u32],
     l: Layout,
-    prices: &[u32; 832],
-    clashes: &[u32; 16],
-    costs: &[u32; 1024],
-    roots: &[u32; 53],
+    tables: &[u32; TABLES],
     rows: &[u64; 52],
-    starts: [u8; 16],
-    j: usize,
-    sum: Euro,
+    node: Node,
     wanted: Euro,
     worths: &mut [u32],
     memo: &mut [u32],
 ) -> Trial
-    requires { ⌜ Filed (now words) l ⌝ }
-    requires { ⌜ Dual (problemOf (now words)) (now prices) (now clashes) (now costs) (now roots) ⌝ }
-    requires { ⌜ Due (problemOf (now words)) (now rows) (startIn starts) j × Standing (problemOf (now words)) (startIn starts) j ⌝ }
-    requires { ⌜ Bounds (problemOf (now words)) (priceIn (now prices)) (now costs) (firstUnits (j + 1)) (startIn starts) (now worths) (sum .0) ⌝ }
-    requires { ⌜ Recalls (problemOf (now words)) (priceIn (now prices)) (now memo) ⌝ }
-    ensures answer { λ r. ⌜ Tested (problemOf (now (words .entry))) (priceIn (now (prices .entry))) (now (costs .entry)) (startIn starts) j (wanted .0)
+    requires { ⌜ StartDue (now words) l (now tables) (now rows) node (now worths) (now memo) ⌝ }
+    ensures answer { λ r. ⌜ Tested (problemOf (now (words .entry))) (now (tables .entry)) (startIn (node .starts)) (node .unit) (wanted .0)
         (now (worths .exit)) r ⌝ }
-    ensures recalls { λ r. ⌜ Recalls (problemOf (now (words .entry))) (priceIn (now (prices .entry))) (now (memo .exit)) ⌝ }
+    ensures recalls { λ r. ⌜ Recalls (problemOf (now (words .entry))) (priceIn (now (tables .entry))) (now (memo .exit)) ⌝ }
 {
-    let first = starts[j] as usize - 1;
-    let weeks = instance::duration(words, l, j);
-    let mut total = sum;
-    for n in 0..weeks {
+    let weeks = overhaul_weeks(words, l, node);
+    let mut total = node.bound;
+    // Each time round, the weeks before t hold with the unit out, and `total` is a bound with what they are worth then.
+    for t in weeks.first..weeks.end {
         if wanted.0 <= total.0 {
             return Trial::Holds(total);
         }
-        let t = first + n;
-        let v = test_week(words, l, prices, clashes, j, t, rows[t], memo);
+        let v = test_next(
+            words,
+            l,
+            tables,
+            rows,
+            dual::with_bound(node, total),
+            t,
+            worths,
+            memo,
+        );
         match v {
             Trial::Fails(b) => {
                 return Trial::Fails(b);
             }
-            Trial::Holds(worth) => {
-                total = exchanged(total, worths[t], worth);
-                worths[t] = worth.0 as u32;
+            Trial::Holds(sum) => {
+                total = sum;
             }
         }
     }
     Trial::Holds(total)
+}
+
+// A node whose bound has the start of its unit in it.
+fn with_start(tables: &[u32; TABLES], node: Node) -> Node
+    requires { ⌜ StartBounded node ⌝ }
+    ensures { λ r. ⌜ r ≡ withStart (now (tables .entry)) node ⌝ }
+{
+    let starts = node.starts;
+    let j = node.unit;
+    let bound = node.bound;
+    let start = starts[j] as usize;
+    dual::with_bound(node, bound.plus(tables::excess(tables, j, start)))
+}
+
+// The verdict of the weeks, weighed against the limit: a bound that comes to it blames those whose starts keep it there.
+fn weighed(
+    words: &[u32],
+    l: Layout,
+    tables: &[u32; TABLES],
+    node: Node,
+    v: Trial,
+    limit: Euro,
+    worths: &mut [u32],
+) -> Trial
+    requires { ⌜ Weighing (now words) l (now tables) node v (limit .0) (now worths) ⌝ }
+    ensures { λ r. ⌜ Judged (problemOf (now (words .entry))) (now (tables .entry)) node (limit .0) (now (worths .exit)) r ⌝ }
+{
+    match v {
+        Trial::Fails(b) => Trial::Fails(b),
+        Trial::Holds(total) => {
+            let wanted = dual::wanted(tables, limit);
+            if total.0 < wanted.0 {
+                return Trial::Holds(total);
+            }
+            let placed = dual::next_node(node, total);
+            Trial::Fails(dual::blamed(words, l, tables, placed, limit, worths))
+        }
+    }
 }
 
 // Unit j at its start, with the units below it as the rows have them: the rules in the weeks of its overhaul, and the lower bound. The worths of the
@@ -196,103 +297,49 @@ fn test_weeks(
 pub fn test(
     words: &[u32],
     l: Layout,
-    prices: &[u32; 832],
-    clashes: &[u32; 16],
-    costs: &[u32; 1024],
-    roots: &[u32; 53],
+    tables: &[u32; TABLES],
     rows: &[u64; 52],
-    starts: [u8; 16],
-    j: usize,
-    sum: Euro,
+    node: Node,
     limit: Euro,
     worths: &mut [u32],
     memo: &mut [u32],
 ) -> Trial
-    requires { ⌜ Filed (now words) l ⌝ }
-    requires { ⌜ Dual (problemOf (now words)) (now prices) (now clashes) (now costs) (now roots) ⌝ }
-    requires { ⌜ Due (problemOf (now words)) (now rows) (startIn starts) j ⌝ }
-    requires { ⌜ Stands (problemOf (now words)) (priceIn (now prices)) (now costs) (startIn starts) j (now worths) (sum .0) × (limit .0 ≤ 268435456) ⌝ }
-    requires { ⌜ Recalls (problemOf (now words)) (priceIn (now prices)) (now memo) ⌝ }
-    ensures answer { λ r. ⌜ Judged (problemOf (now (words .entry))) (priceIn (now (prices .entry))) (now (costs .entry)) (startIn starts) (j + 1) (limit .0)
-        (now (worths .exit)) r ⌝ }
-    ensures recalls { λ r. ⌜ Recalls (problemOf (now (words .entry))) (priceIn (now (prices .entry))) (now (memo .exit)) ⌝ }
+    requires { ⌜ TestDue (now words) l (now tables) (now rows) node (limit .0) (now worths) (now memo) ⌝ }
+    ensures answer { λ r. ⌜ Judged (problemOf (now (words .entry))) (now (tables .entry)) node (limit .0) (now (worths .exit)) r ⌝ }
+    ensures recalls { λ r. ⌜ Recalls (problemOf (now (words .entry))) (priceIn (now (tables .entry))) (now (memo .exit)) ⌝ }
 {
-    let start = starts[j] as usize;
-    let wanted = dual::wanted(roots, limit);
-    let more = sum.plus(dual::excess(costs, j, start));
-    let v = test_weeks(
-        words,
-        l,
-        prices,
-        clashes,
-        costs,
-        roots,
-        rows,
-        starts,
-        j,
-        more,
-        wanted,
-        worths,
-        memo,
-    );
-    match v {
-        Trial::Fails(b) => Trial::Fails(b),
-        Trial::Holds(total) => {
-            if total.0 < wanted.0 {
-                return Trial::Holds(total);
-            }
-            Trial::Fails(dual::blamed(
-                words,
-                l,
-                prices,
-                clashes,
-                costs,
-                roots,
-                starts,
-                j + 1,
-                total,
-                limit,
-                worths,
-            ))
-        }
-    }
+    let wanted = dual::wanted(tables, limit);
+    let started = with_start(tables, node);
+    let v = test_weeks(words, l, tables, rows, started, wanted, worths, memo);
+    weighed(words, l, tables, node, v, limit, worths)
 }
 
 // ---- before any unit is placed
 
 // What all overhauls cost at least.
-fn least_sum(words: &[u32], l: Layout, costs: &[u32; 1024]) -> Euro
+fn least_sum(words: &[u32], l: Layout, tables: &[u32; TABLES]) -> Euro
     requires { ⌜ Filed (now words) l ⌝ }
-    ensures { λ r. ⌜ (r .0 ≡ sumTo (problemOf (now (words .entry)) .units) (leastIn (now (costs .entry)))) × (r .0 ≤ 68719476736) ⌝ }
+    ensures { λ r. ⌜ (r .0 ≡ sumTo (problemOf (now (words .entry)) .units) (leastIn (now (tables .entry)))) × (r .0 ≤ 68719476736) ⌝ }
 {
     let units = l.units;
     let mut sum = Euro(0);
     for i in 0..units {
-        sum = sum.plus(dual::excess(costs, i, 0));
+        sum = sum.plus(tables::excess(tables, i, 0));
     }
     sum
 }
 
 // The lower bound with nobody out; or no schedule is below the limit at all.
-pub fn root(
-    words: &[u32],
-    l: Layout,
-    prices: &[u32; 832],
-    clashes: &[u32; 16],
-    costs: &[u32; 1024],
-    roots: &[u32; 53],
-    limit: Euro,
-) -> Trial
-    requires { ⌜ Filed (now words) l ⌝ }
-    requires { ⌜ Dual (problemOf (now words)) (now prices) (now clashes) (now costs) (now roots) × (limit .0 ≤ 268435456) ⌝ }
-    ensures { λ r. ⌜ Rooted (problemOf (now (words .entry))) (priceIn (now (prices .entry))) (now (costs .entry)) (now (roots .entry)) (limit .0) r ⌝ }
+pub fn root(words: &[u32], l: Layout, tables: &[u32; TABLES], limit: Euro) -> Trial
+    requires { ⌜ RootDue (now words) l (now tables) (limit .0) ⌝ }
+    ensures { λ r. ⌜ Rooted (problemOf (now (words .entry))) (now (tables .entry)) (limit .0) r ⌝ }
 {
     let weeks = l.weeks;
-    let wanted = dual::wanted(roots, limit);
-    let mut sum = least_sum(words, l, costs);
+    let wanted = dual::wanted(tables, limit);
+    let mut sum = least_sum(words, l, tables);
     for t in 0..weeks {
-        let worth = dual::euros(roots[t]);
-        if 268435456 <= worth.0 {
+        let worth = tables::root_value(tables, t);
+        if NO_RUN <= worth.0 {
             return Trial::Fails(0);
         }
         sum = sum.plus(worth);
@@ -304,12 +351,12 @@ pub fn root(
 }
 
 // What each week is worth with nobody out.
-pub fn first_worths(roots: &[u32; 53]) -> [u32; 52]
-    ensures { λ r. ⌜ Fronts (now (roots .entry)) r ⌝ }
+pub fn first_worths(tables: &[u32; TABLES]) -> [u32; 52]
+    ensures { λ r. ⌜ Fronts (now (tables .entry)) r ⌝ }
 {
     let mut table: [u32; 52] = [0; 52];
     for t in 0..52 {
-        table[t] = roots[t];
+        table[t] = tables::root_value(tables, t).0 as u32;
     }
     table
 }
@@ -332,21 +379,11 @@ pub fn startless(words: &[u32], l: Layout) -> bool
 // ---- all units placed
 
 // What week t costs with the units of a row word out: their maintenance, and the cheapest run of the others.
-fn week_cost(
-    words: &[u32],
-    l: Layout,
-    prices: &[u32; 832],
-    t: usize,
-    word: u64,
-    memo: &mut [u32],
-) -> Euro
-    requires { ⌜ Filed (now words) l ⌝ }
-    requires { ⌜ t < l .weeks ⌝ }
-    requires { ⌜ Tallies (problemOf (now words)) t (tallyOf word) ⌝ }
-    requires { ⌜ Recalls (problemOf (now words)) (priceIn (now prices)) (now memo) ⌝ }
+fn week_cost(words: &[u32], l: Layout, t: usize, word: u64, memo: &mut [u32]) -> Euro
+    requires { ⌜ Filed (now words) l × (t < l .weeks) × Tallies (problemOf (now words)) t (tallyOf word) × Right (problemOf (now words)) (now memo) ⌝ }
     ensures answer { λ r. ⌜ (r .0 ≡ outCost (problemOf (now (words .entry))) t (has (word % 65536)) + leastCost (problemOf (now (words .entry))) t (has (word % 65536)))
         × (r .0 ≤ 272435456) ⌝ }
-    ensures recalls { λ r. ⌜ Recalls (problemOf (now (words .entry))) (priceIn (now (prices .entry))) (now (memo .exit)) ⌝ }
+    ensures right { λ r. ⌜ Right (problemOf (now (words .entry))) (now (memo .exit)) × Others (now (memo .entry)) (now (memo .exit)) ⌝ }
 {
     let y = tally(word);
     let out = y.out;
@@ -355,24 +392,16 @@ fn week_cost(
 }
 
 // What all weeks cost with the units of the rows out.
-pub fn cost(
-    words: &[u32],
-    l: Layout,
-    prices: &[u32; 832],
-    rows: &[u64; 52],
-    starts: [u8; 16],
-    memo: &mut [u32],
-) -> Euro
-    requires { ⌜ Filed (now words) l ⌝ }
-    requires { ⌜ Rows (problemOf (now words)) (placed (problemOf (now words)) (startIn starts) (l .units)) (now rows) ⌝ }
-    requires { ⌜ Recalls (problemOf (now words)) (priceIn (now prices)) (now memo) ⌝ }
+pub fn cost(words: &[u32], l: Layout, rows: &[u64; 52], starts: [u8; 16], memo: &mut [u32]) -> Euro
+    requires { ⌜ Filed (now words) l × Rows (problemOf (now words)) (placed (problemOf (now words)) (startIn starts) (l .units)) (now rows)
+        × Right (problemOf (now words)) (now memo) ⌝ }
     ensures answer { λ r. ⌜ r .0 ≡ paid (problemOf (now (words .entry))) (placed (problemOf (now (words .entry))) (startIn starts) (l .units)) ⌝ }
-    ensures recalls { λ r. ⌜ Recalls (problemOf (now (words .entry))) (priceIn (now (prices .entry))) (now (memo .exit)) ⌝ }
+    ensures right { λ r. ⌜ Right (problemOf (now (words .entry))) (now (memo .exit)) × Others (now (memo .entry)) (now (memo .exit)) ⌝ }
 {
     let weeks = l.weeks;
     let mut sum = Euro(0);
     for t in 0..weeks {
-        sum = sum.plus(week_cost(words, l, prices, t, rows[t], memo));
+        sum = sum.plus(week_cost(words, l, t, rows[t], memo));
     }
     sum
 }

@@ -61,7 +61,7 @@ module _ (ws g : List ℕ) (l : Layout) (t i s : ℕ) (same : s ≡ cell (l .uni
       → r ≡ charge (problemOf ws) (cell (l .units) g) t i
   unfolding charge isMaint isOn
   state-costs row r k ht hi n e is =
-      let few : s ≤ 2 = rw same (k .cells t i (rw (k .grid .weeks-are) ht) (rw (k .grid .units-are) hi)) in
+      let few : s ≤ 2 = rw same (k .cells t i (rw (k .grid .filed .weeks-are) ht) (rw (k .grid .filed .units-are) hi)) in
       is ∙ ap (λ (xs : List ℕ). valueOf (getD xs i 0)) e ∙ rw (← same) (entry-costs ws l t i (k .grid .filed) ht hi s n few)
 
 -- ---- the sums

@@ -17,7 +17,7 @@ use Rattle.model.specs.Refusal.{cellFault, gridVerdict}
 use Rattle.model.specs.Judgement.{soundAt, breaks, rejected, judgement, judgeOf}
 use Rattle.model.proofs.VerdictLaws.{Onward, onward-fault, onward-next, accepted-cells}
 use Rattle.instance.specs.Filed.{Filed}
-use Rattle.instance.proofs.FiledLaws.{filed, weeks-are, units-are, cells-are}
+use Rattle.instance.proofs.FiledLaws.{filed, cells-are}
 use Rattle.decoder.specs.Answers.{verdictOf}
 use Rattle.decoder.specs.declared.Verdict.{Verdict}
 use Rattle.decoder.specs.declared.Verdict.the-variants.{Accepted, Refused}
@@ -81,21 +81,18 @@ module _ (ws g : List ℕ) (v : Verdict) (e : readOf ws ≡ accepted) (said : ve
     pub stated : Stated ws g l
     stated =
         let f = filed ws l e laid in
-        let u = units-are ws l f in
         record {
           grid = record {
             filed = f;
             full = accepted-cells (problemOf ws) g passes .0 ∙ cells-are ws l f;
-            weeks-are = weeks-are ws l f;
-            units-are = u;
           };
-          cells = rw (← u) (accepted-cells (problemOf ws) g passes .1);
+          cells = rw (← (f .units-are)) (accepted-cells (problemOf ws) g passes .1);
         }
 
     -- and the judgement on its cells is the answer
     pub grid-judged : (j : Judgement) → judgementOf j ≡ judgement (problemOf ws) (cell (l .units) g) → judgementOf j ≡ judgeOf ws g
     unfolding judgeOf andThen
-    grid-judged j is = is ∙ rw (e, passes, units-are ws l (filed ws l e laid))
+    grid-judged j is = is ∙ rw (e, passes, filed ws l e laid .units-are)
 
 -- ---- any words
 

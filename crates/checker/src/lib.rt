@@ -5,7 +5,7 @@ use model::Layout;
 ghost use Prim.Native.Nat.{_<_, _≤_};
 ghost use mathlib.Core.Path.{_≡_};
 ghost use lib.ListN.{length};
-ghost use Rattle.model.specs.Words.{problemOf};
+ghost use Rattle.model.specs.Words.{VALUES, problemOf};
 ghost use Rattle.model.specs.Grid.{cell};
 ghost use Rattle.model.specs.Rules.{charge, weekCost, cost9};
 ghost use Rattle.model.specs.Verdict.{accepted, firstFault};
@@ -43,14 +43,14 @@ fn row_for<'a>(words: &'a [u32], l: Layout, t: usize, state: u8) -> &'a [u32]
 fn cell_cost(words: &[u32], grid: &[u8], l: Layout, t: usize, i: usize) -> Euro
     requires { ⌜ Stated (now words) (now grid) l ⌝ }
     requires { ⌜ (t < l .weeks) × (i < l .units) ⌝ }
-    ensures { λ r. ⌜ (r .0 ≡ charge (problemOf (now (words .entry))) (cell (l .units) (now (grid .entry))) t i) × (r .0 < 268435456) ⌝ }
+    ensures { λ r. ⌜ (r .0 ≡ charge (problemOf (now (words .entry))) (cell (l .units) (now (grid .entry))) t i) × (r .0 < VALUES) ⌝ }
 {
     let state = rules::state(grid, l, t, i);
     if state == 0 {
         return instance::off_cost(words, l, t, i);
     }
     let row = row_for(words, l, t, state);
-    Euro(instance::value_of(row[i]) as u64)
+    Euro(words::value_of(row[i]) as u64)
 }
 
 // What all units cost in week t.

@@ -1,54 +1,26 @@
--- A table of 16 places filled one by one: what it holds so far, and how large.
+-- A table of 16 places filled one by one: what it holds so far.
 -- Assumes nothing.
 use Prim.Native.Nat.{ℕ, _+_, _*_, _-_, _^_, _≤_, _<_}
 use mathlib.Core.Path.{_≡_, subst}
 use mathlib.Core.List.{List}
-use native.Mathlib.Decide.{ℕ-discrete}
 use native.Mathlib.Nat.{pow-suc}
 use native.Mathlib.Numerals.{add-one}
 use native.Mathlib.Omega.{arith}
-use lib.ListN.{length, getD, set, replicate}
+use lib.ListN.{length, set}
 use lib.Pow.{pow-mono}
-use lib.Seq.{getD-set-same, getD-set-other}
 use Rattle.sums.specs.NumSet.{power}
-use Rattle.sums.proofs.LoopLaws.{zeros-at, place-next}
+use Rattle.sums.proofs.LoopLaws.{place-next}
 use Rattle.model.specs.declared.Layout.{Layout}
 use Rattle.model.specs.Words.{problemOf}
 use Rattle.instance.specs.Filed.{Filed}
-use Rattle.cover.specs.Tables.{entry, MOST_WEIGHT, Caps, Weights}
+use Rattle.cover.specs.Tables.{entry}
 use Rattle.commitment.specs.Score.{scored, weightOf, Column}
 
 -- nothing yet
 pub column-start : (f : ℕ → ℕ) (xs : List ℕ) → Column 0 f xs
 column-start f xs = record { holds = λ i l. absurd (omega arith) }
 
--- zeros are capacities
-pub caps-start : (n : ℕ) → Caps (replicate n 0)
-unfolding entry
-caps-start n = record { most = λ i. omega (arith, zeros-at n i) }
-
--- and weights
-pub weights-start : (n : ℕ) → Weights (replicate n 0)
-unfolding entry
-weights-start n = record { most = λ i. omega (arith, zeros-at n i) }
-
-set-most : (xs : List ℕ) (k v most i : ℕ) → k < length xs → entry xs i ≤ most → v ≤ most → entry (set xs k v) i ≤ most
-unfolding entry
-set-most xs k v most i l h m = by (ℕ-discrete i k)
-  where
-    by : Dec (i ≡ k) → getD (set xs k v) i 0 ≤ most
-    by (yes e) = rw (e, getD-set-same xs k v 0 l) m
-    by (no n) = rw (getD-set-other xs k i v 0 n) h
-
 module _ (ws : List ℕ) (l : Layout) (xs : List ℕ) (k v : ℕ) (f : Filed ws l) (long : length xs ≡ 16) (h : k < l .units) where
-  -- one more capacity
-  pub caps-next : Caps xs → v ≤ 1000000 → Caps (set xs k v)
-  caps-next c m = record { most = λ i. set-most xs k v 1000000 i (omega (arith, f .units-most)) (c .most i) m }
-
-  -- one more weight
-  pub weights-next : Weights xs → v ≤ MOST_WEIGHT → Weights (set xs k v)
-  weights-next c m = record { most = λ i. set-most xs k v MOST_WEIGHT i (omega (arith, f .units-most)) (c .most i) m }
-
   -- one more place
   pub column-next : (g : ℕ → ℕ) → Column k g xs → v ≡ g k → Column (k + 1) g (set xs k v)
   unfolding entry

@@ -15,7 +15,6 @@ use Rattle.model.specs.Rules.{output}
 use Rattle.model.specs.Words.{problemOf}
 use Rattle.model.specs.Commitment.{lineCost, fullCost}
 use Rattle.instance.specs.Filed.{Filed}
-use Rattle.instance.proofs.FiledLaws.{units-are}
 use Rattle.instance.proofs.FigureLaws.{off-none}
 
 -- a unit of the run
@@ -33,7 +32,7 @@ pub full-ended : (ws : List ℕ) (l : Layout) (t k a run : ℕ) → Filed ws l �
     → a ≡ fullCost (problemOf ws) t run
 unfolding fullCost
 full-ended ws l t k a run f h g e =
-    let z : k ≡ problemOf ws .units = omega (arith, units-are ws l f) in
+    let z : k ≡ problemOf ws .units = omega arith in
     e ∙ ap (λ (n : ℕ). sumTo n (lineCost (problemOf ws) t run)) z
 
 -- nothing, where nobody runs and the file has no OFF costs

@@ -20,8 +20,8 @@ use Rattle.model.specs.Words.{problemOf}
 use Rattle.model.specs.Commitment.{lineCost, runCost, fullCost, offCost, runBefore, Serves, Cheapest, NoRun, NO_RUN, fullLeast}
 use Rattle.model.proofs.CommitmentLaws.{run-full, full-of, full-none, full-bounded}
 use Rattle.model.proofs.FileLaws.{ranged}
+use Rattle.sets.specs.Sets.{SETS}
 use Rattle.instance.specs.Filed.{Filed}
-use Rattle.instance.proofs.FiledLaws.{weeks-are, units-are}
 use Rattle.cover.specs.Cover.{UNCOVERED, Least}
 use Rattle.cover.specs.Tables.{entry}
 use Rattle.cover.proofs.CoverLaws.{least-agree, least-free}
@@ -31,11 +31,11 @@ use Rattle.commitment.proofs.ThriftyLaws.{thrifty-none, thrifty-output,
 use Rattle.commitment.proofs.LineLaws.{full-nobody}
 
 module _ (p : Problem) (t : ℕ) (few : p .units ≤ 16) where
-  tie-small : (i : ℕ) → i < p .units → power i ≤ 65536
+  tie-small : (i : ℕ) → i < p .units → power i ≤ SCALE
   unfolding power
   tie-small i l = let s : i ≤ 15 = omega arith in let m : 2 ^ i ≤ 2 ^ 15 = pow-mono s in omega arith
 
-  number-small : (r : ℕ) → r < 2 ^ p .units → r < 65536
+  number-small : (r : ℕ) → r < 2 ^ p .units → r < SETS
   number-small r h = let m : 2 ^ p .units ≤ 2 ^ 16 = pow-mono few in omega arith
 
   -- a score in the general form
@@ -114,7 +114,7 @@ run-small ws l t f h q =
     p = problemOf ws
 
     week : t < problemOf ws .weeks
-    week = omega (arith, weeks-are ws l f)
+    week = omega arith
 
     go : (i : ℕ) → i < problemOf ws .units → (b : Bool) → if b (problemOf ws .running t i) (problemOf ws .off t i) ≤ 250000
     go i d true = ranged ws (f .passed) .running-most t i week d
@@ -138,14 +138,14 @@ module _ (ws : List ℕ) (l : Layout) (t out : ℕ) (f : Filed ws l) where
       let p = problemOf ws in
       let left = p .demand t - output p t (thrifty p t (has out)) in
       let n : need ≡ left = e ∙ ap (λ (z : ℕ). p .demand t - z) (thrifty-output p t r (has out) run) in
-      subst (λ (u : ℕ). Least (away (decided p t (has out))) (p .capacity t) (weightOf p t) u left v) (sym (units-are ws l f))
+      subst (λ (u : ℕ). Least (away (decided p t (has out))) (p .capacity t) (weightOf p t) u left v) (sym (f .units-are))
       (subst (λ (z : ℕ). Least (away (decided p t (has out))) (p .capacity t) (weightOf p t) (l .units) z v) n
       (least-free (away (has both)) (away (decided p t (has out))) (p .capacity t) (weightOf p t) (l .units) need v
-      (λ i d. thrifty-decided p t r (has out) run both out refl join i (omega (arith, units-are ws l f)))
+      (λ i d. thrifty-decided p t r (has out) run both out refl join i (omega arith))
       (least-agree (away (has both)) (entry caps) (p .capacity t) (entry weights) (weightOf p t) (l .units) need v (a .holds) (b .holds) c)))
 
   -- the number of the thrifty units fits
-  pub thrifty-fits : (r : ℕ) → ThriftyRun (problemOf ws) t (has out) r → r < 65536
+  pub thrifty-fits : (r : ℕ) → ThriftyRun (problemOf ws) t (has out) r → r < SETS
   thrifty-fits r run = thrifty-small (problemOf ws) t r (has out) run few
 
   -- with their score the least weight is the least score
@@ -206,9 +206,9 @@ module _ (ws : List ℕ) (l : Layout) (t out : ℕ) (f : Filed ws l) where
             omega (arith, m .most, full-none (problemOf ws) t (has out) (found-none u))
 
     -- which fits a word of 32 bits
-    pub cost-small : (c : ℕ) → c ≡ costIn v → c ≤ 268435456
+    pub cost-small : (c : ℕ) → c ≡ costIn v → c ≤ NO_RUN
     cost-small c e = omega (arith, m .most)
 
 -- a week's least cost is never more than what stands for none
-pub least-small : (ws : List ℕ) (l : Layout) (t : ℕ) → Filed ws l → t < l .weeks → (out : NumSet) → fullLeast (problemOf ws) t out ≤ 268435456
+pub least-small : (ws : List ℕ) (l : Layout) (t : ℕ) → Filed ws l → t < l .weeks → (out : NumSet) → fullLeast (problemOf ws) t out ≤ NO_RUN
 least-small ws l t f h out = full-bounded (problemOf ws) t out (λ q s. omega (arith, run-small ws l t f h q))

@@ -1,19 +1,15 @@
 -- A week's tally when one more unit is out.
 -- Assumes nothing.
 use Prim.Native.Nat.{ℕ, _+_, _≤_, _<_}
-use mathlib.Core.Path.{_≡_, sym, _∙_, ap}
-use mathlib.Core.Bool.{Bool, true, false, _||_}
+use mathlib.Core.Path.{_≡_, sym, _∙_}
+use mathlib.Core.Bool.{Bool, true, false}
 use mathlib.Core.List.{List}
 use native.Mathlib.Nat.{mul-le-mul-right}
-use native.Mathlib.Decide.{ℕ-discrete}
 use native.Mathlib.Omega.{arith}
-use lib.Dec.{eqb}
-use borrow.Author.Tests.{ne-eqb}
 use Rattle.sums.specs.Sum.{sumTo, countsOne}
-use Rattle.sums.specs.NumSet.{pick, has}
-use Rattle.sums.proofs.LogicLaws.{or-left, or-last-false}
+use Rattle.sums.specs.NumSet.{pick, has, with}
 use Rattle.sums.proofs.SumLaws.{sum-zero}
-use Rattle.sums.proofs.NumSetLaws.{zero-has, sum-over, sum-joined}
+use Rattle.sums.proofs.NumSetLaws.{zero-has, sum-over, sum-joined, with-same}
 use Rattle.model.specs.declared.Layout.{Layout}
 use Rattle.model.specs.Problem.{Problem}
 use Rattle.model.specs.Rules.{headcount}
@@ -21,7 +17,6 @@ use Rattle.model.specs.Words.{problemOf}
 use Rattle.model.specs.Commitment.{outCost}
 use Rattle.model.proofs.FileLaws.{ranged}
 use Rattle.instance.specs.Filed.{Filed}
-use Rattle.instance.proofs.FiledLaws.{weeks-are, units-are}
 use Rattle.commitment.specs.declared.Tally.{Tally}
 use Rattle.commitment.specs.Tally.{noTally, Tallies}
 
@@ -34,17 +29,13 @@ tally-none p t = record {
 }
 
 -- a unit that is out already changes nothing
-pub joined-same : (out i : ℕ) (b : Bool) → b ≡ true → b ≡ has out i → (k : ℕ) → has out k ≡ (has out k || eqb k i)
-joined-same out i b e is k = by (ℕ-discrete k i)
-  where
-    by : Dec (k ≡ i) → has out k ≡ (has out k || eqb k i)
-    by (yes q) = let o : has out k ≡ true = ap (has out) q ∙ sym is ∙ e in o ∙ sym (or-left (has out k) (eqb k i) o)
-    by (no n) = rw (ne-eqb k i n) (sym (or-last-false (has out k)))
+pub joined-same : (out i : ℕ) (b : Bool) → b ≡ true → b ≡ has out i → (k : ℕ) → has out k ≡ with (has out) i k
+joined-same out i b e is k = sym (with-same (has out) i (sym is ∙ e) k)
 
 module _ (ws : List ℕ) (l : Layout) (t i out r : ℕ) (b : Bool) (f : Filed ws l) (h : i < l .units) (e : b ≡ false) (is : b ≡ has out i)
-    (j : (k : ℕ) → has r k ≡ (has out k || eqb k i)) where
+    (j : (k : ℕ) → has r k ≡ with (has out) i k) where
   joined : (g : ℕ → ℕ) → sumTo (problemOf ws .units) (pick (has r) g) ≡ sumTo (problemOf ws .units) (pick (has out) g) + g i
-  joined g = sum-joined (problemOf ws .units) i (has out) (has r) g (rw (units-are ws l f) h) (sym is ∙ e) j
+  joined g = sum-joined (problemOf ws .units) i (has out) (has r) g (rw (f .units-are) h) (sym is ∙ e) j
 
   -- one more is out
   pub count-next : (n : ℕ) → n ≡ headcount (problemOf ws) (has out) → n + 1 ≡ headcount (problemOf ws) (has r)
@@ -72,6 +63,6 @@ module _ (ws : List ℕ) (l : Layout) (t : ℕ) (y : Tally) (f : Filed ws l) (w 
   cost-fits m h s =
       let p = problemOf ws in
       let g = ranged ws (f .passed) in
-      let b = sum-over (p .units) 250000 (has (y .out)) (p .maint t) (λ i d. g .maint-most t i (omega (arith, weeks-are ws l f)) d) in
+      let b = sum-over (p .units) 250000 (has (y .out)) (p .maint t) (λ i d. g .maint-most t i (omega arith) d) in
       let u = mul-le-mul-right 250000 (g .units-most) in
       omega (arith, w .sum)

@@ -4,7 +4,6 @@ use Prim.Native.Nat.{ℕ, _+_, _-_, _^_, _≤_, _<_}
 use mathlib.Core.Path.{_≡_, refl, sym, _∙_, ap}
 use mathlib.Core.Bool.{Bool, true, false, not, _&&_, _||_}
 use mathlib.Core.List.{List}
-use native.Mathlib.Nat.{div-eq-of-lt}
 use native.Mathlib.Decide.{ℕ-discrete}
 use native.Mathlib.Omega.{arith}
 use lib.Dec.{ltb, eqb}
@@ -12,8 +11,8 @@ use lib.Pow.{pow-pos, pow-mono}
 use borrow.Author.Tests.{eq-eqb, ne-eqb, lt-ltb, le-ltb}
 use Rattle.sums.specs.Sum.{sumTo, shifted}
 use Rattle.sums.specs.Range.{someTo}
-use Rattle.sums.specs.NumSet.{NumSet, pick, away, power, numberOf, has}
-use Rattle.sums.proofs.LogicLaws.{true-false, or-last-false, not-so, and-left, and-right}
+use Rattle.sums.specs.NumSet.{NumSet, pick, away, with, power, numberOf, has}
+use Rattle.sums.proofs.LogicLaws.{true-false, or-last-false, not-so, and-left, and-right, and-last-false}
 use Rattle.sums.proofs.LoopLaws.{Gathered, gathered-ended}
 use Rattle.sums.proofs.RangeLaws.{some-of, first-is}
 use Rattle.sums.proofs.SumLaws.{sum-zero, sum-cut}
@@ -22,8 +21,8 @@ use Rattle.model.specs.declared.Layout.{Layout}
 use Rattle.model.specs.Problem.{Problem}
 use Rattle.model.specs.Rules.{output}
 use Rattle.model.specs.Words.{problemOf}
+use Rattle.sets.specs.Sets.{SETS}
 use Rattle.instance.specs.Filed.{Filed}
-use Rattle.instance.proofs.FiledLaws.{units-are}
 use Rattle.instance.proofs.FigureLaws.{off-none}
 use Rattle.commitment.specs.Score.{thrifty, thriftyAt, ThriftyRun, decided}
 
@@ -45,16 +44,12 @@ module _ (p : Problem) (t i found r : ℕ) (out : NumSet) where
     unfolding thriftyAt thrifty
     thrifty-dear l j = by (ℕ-discrete j i)
       where
-        last : (b : Bool) → (b && false) ≡ false
-        last true = refl
-        last false = refl
-
         by : Dec (j ≡ i) → has found j ≡ (has found j || (eqb j i && (not (out j) && ltb (p .running t j) (p .off t j))))
-        by (yes z) = rw (z, eq-eqb i i refl, le-ltb (p .running t i) (p .off t i) (omega arith), last (not (out i))) (sym (or-last-false (has found i)))
+        by (yes z) = rw (z, eq-eqb i i refl, le-ltb (p .running t i) (p .off t i) (omega arith), and-last-false (not (out i))) (sym (or-last-false (has found i)))
         by (no z) = rw (ne-eqb j i z) (sym (or-last-false (has found j)))
 
     -- one that costs less running, and is not out
-    pub thrifty-cheap : (b : Bool) → b ≡ out i → b ≡ false → on < off → ((j : ℕ) → has r j ≡ (has found j || eqb j i))
+    pub thrifty-cheap : (b : Bool) → b ≡ out i → b ≡ false → on < off → ((j : ℕ) → has r j ≡ with (has found) i j)
         → (j : ℕ) → has r j ≡ (has found j || thriftyAt p t out j i)
     unfolding thriftyAt thrifty
     thrifty-cheap b is e l more j = by (ℕ-discrete j i)
@@ -117,10 +112,10 @@ thrifty-ended ws l t i units r out f g e a b small = record { units = all-run p 
     p = problemOf ws
 
     few : problemOf ws .units ≤ 16
-    few = omega (arith, f .units-most, units-are ws l f)
+    few = omega arith
 
     count : units ≡ problemOf ws .units
-    count = omega (arith, units-are ws l f)
+    count = omega arith
 
     all : (j : ℕ) → has r j ≡ someTo (problemOf ws .units) (thriftyAt (problemOf ws) t out j)
     all j = gathered-ended (thriftyAt p t out) i units r g a b j ∙ ap (λ (n : ℕ). someTo n (thriftyAt p t out j)) count
@@ -130,12 +125,8 @@ pub thrifty-none : (ws : List ℕ) (l : Layout) (t : ℕ) (out : NumSet) → Fil
 unfolding thrifty
 thrifty-none ws l t out f none = record {
   units = omega (arith, pow-pos (problemOf ws .units));
-  has-them = λ i h. zero-has i ∙ sym (rw (← off-none ws l f t i none, le-ltb (problemOf ws .running t i) 0 (omega arith)) (last (not (out i))));
+  has-them = λ i h. zero-has i ∙ sym (rw (← off-none ws l f t i none, le-ltb (problemOf ws .running t i) 0 (omega arith)) (and-last-false (not (out i))));
 }
-  where
-    last : (b : Bool) → (b && false) ≡ false
-    last true = refl
-    last false = refl
 
 -- ---- what the run of them means
 
@@ -155,5 +146,5 @@ module _ (p : Problem) (t r : ℕ) (out : NumSet) (run : ThriftyRun p t out r) w
       same = rw (run .has-them i l, e)
 
   -- and their number lies below 2 ^ 16
-  pub thrifty-small : p .units ≤ 16 → r < 65536
+  pub thrifty-small : p .units ≤ 16 → r < SETS
   thrifty-small few = let m : 2 ^ p .units ≤ 2 ^ 16 = pow-mono few in omega (arith, run .units)

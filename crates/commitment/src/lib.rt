@@ -1,4 +1,4 @@
-// One week: the tally of the units out, and the cheapest run of the others. A run's score is its cost, with all other units OFF, times 65,536, and
+// One week: the tally of the units out, and the cheapest run of the others. A run's score is its cost, with all other units OFF, times SCALE, and
 // its number, so that the least score has the least cost and, of equal costs, the smallest number; a unit's weight is what it adds to a score. Units
 // that cost less running than OFF are thrifty: they run whether they are needed or not. Weeks and units count from 0.
 use cover::UNCOVERED;
@@ -8,16 +8,15 @@ use model::Layout;
 ghost use mathlib.Core.Path.{_≡_};
 ghost use mathlib.Core.Bool.{_||_};
 ghost use Prim.Native.Nat.{ℕ, _+_, _-_, _*_, _<_, _≤_};
-ghost use lib.Dec.{eqb};
-ghost use Rattle.sums.specs.NumSet.{has};
+ghost use Rattle.sums.specs.NumSet.{has, with};
 ghost use Rattle.model.specs.Words.{problemOf};
 ghost use Rattle.model.specs.Rules.{output};
-ghost use Rattle.model.specs.Commitment.{lineCost, fullCost, fullLeast};
+ghost use Rattle.model.specs.Commitment.{lineCost, fullCost, fullLeast, NO_RUN};
 ghost use Rattle.instance.specs.Filed.{Filed};
 ghost use Rattle.cover.specs.Cover.{UNCOVERED};
 ghost use Rattle.cover.specs.Tables.{MOST_WEIGHT, Caps, Weights};
 ghost use Rattle.commitment.specs.Tally.{noTally, Tallies};
-ghost use Rattle.commitment.specs.Score.{scored, costIn, numberIn, weightOf, thriftyAt, ThriftyRun, LeastWeight, LeastScore, Column};
+ghost use Rattle.commitment.specs.Score.{SCALE, scored, costIn, numberIn, weightOf, thriftyAt, ThriftyRun, LeastWeight, LeastScore, Column};
 ghost use Rattle.commitment.specs.Answers.{Answers};
 
 // The units out in a week, their number, and their maintenance cost.
@@ -44,7 +43,7 @@ impl Tally {
         requires { ⌜ Filed (now words) l ⌝ }
         requires { ⌜ (t < l .weeks) × (i < l .units) ⌝ }
         requires { ⌜ Tallies (problemOf (now words)) t self ⌝ }
-        ensures { λ r. ⌜ Tallies (problemOf (now (words .entry))) t r × ((k : ℕ) → has (r .out) k ≡ (has (self .out) k || eqb k i)) ⌝ }
+        ensures { λ r. ⌜ Tallies (problemOf (now (words .entry))) t r × ((k : ℕ) → has (r .out) k ≡ with (has (self .out)) i k) ⌝ }
     {
         if sets::has(self.out, i) {
             return self;
@@ -93,7 +92,7 @@ const SCALE: u64 = 65536;
 
 // The score of a run: what it costs with all other units OFF, and its number.
 fn score(cost: Euro, number: u64) -> u64
-    requires { ⌜ (cost .0 ≤ 4000000) × (number < 65536) ⌝ }
+    requires { ⌜ (cost .0 ≤ 4000000) × (number < SCALE) ⌝ }
     ensures { λ r. ⌜ (r ≡ scored (cost .0) number) × (r < UNCOVERED) ⌝ }
 {
     cost.0 * SCALE + number
@@ -265,12 +264,12 @@ pub fn cheapest(words: &[u32], l: Layout, t: usize, out: u32) -> Found
     Found::Nothing
 }
 
-// What the cheapest run costs with OFF charged to the units out too, 2^28 where there is none: UNCOVERED stands for the score then, and the
+// What the cheapest run costs with OFF charged to the units out too, NO_RUN where there is none: UNCOVERED stands for the score then, and the
 // same division tells both.
 pub fn full_least(words: &[u32], l: Layout, t: usize, out: u32) -> Euro
     requires { ⌜ Filed (now words) l ⌝ }
     requires { ⌜ t < l .weeks ⌝ }
-    ensures { λ r. ⌜ (r .0 ≡ fullLeast (problemOf (now (words .entry))) t (has out)) × (r .0 ≤ 268435456) ⌝ }
+    ensures { λ r. ⌜ (r .0 ≡ fullLeast (problemOf (now (words .entry))) t (has out)) × (r .0 ≤ NO_RUN) ⌝ }
 {
     cost_in(least_score(words, l, t, out))
 }

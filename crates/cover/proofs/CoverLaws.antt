@@ -2,7 +2,7 @@
 -- Assumes nothing.
 use Prim.Native.Nat.{ℕ, zero, suc, _+_, _-_, _≤_, _<_}
 use mathlib.Core.Path.{_≡_, refl, sym, _∙_, ap, subst}
-use mathlib.Core.Bool.{Bool, true, false, not, _&&_, _||_}
+use mathlib.Core.Bool.{Bool, true, false, _&&_}
 use mathlib.Core.Logic.{_⊎_, inl, inr}
 use native.Mathlib.Nat.{le-refl, le-trans}
 use native.Mathlib.Decide.{decLt, ℕ-discrete}
@@ -11,78 +11,61 @@ use lib.Dec.{ltb, eqb}
 use borrow.Author.Tests.{ltb-true, ltb-false, le-ltb, eq-eqb, ne-eqb}
 use Rattle.sums.specs.Logic.{if}
 use Rattle.sums.specs.Sum.{sumTo}
-use Rattle.sums.specs.NumSet.{NumSet, pick}
-use Rattle.sums.proofs.LogicLaws.{true-false, and-last-true, and-last-false, or-last-false, or-right}
+use Rattle.sums.specs.NumSet.{NumSet, pick, with, without}
+use Rattle.sums.proofs.LogicLaws.{true-false}
 use Rattle.sums.proofs.SumLaws.{sum-same}
-use Rattle.sums.proofs.NumSetLaws.{pick-agree}
+use Rattle.sums.proofs.NumSetLaws.{pick-agree, with-at, with-else, without-at, without-else}
 use Rattle.cover.specs.Cover.{Covers, Reached, UNCOVERED, Candidate, Least, settled, coverTo}
 
 -- ---- a set with unit k left out, and with it taken
 
-unfoldable leaving : ℕ → NumSet → NumSet
-leaving k z i = z i && not (eqb i k)
-
-unfoldable taking : ℕ → NumSet → NumSet
-taking k z i = z i || eqb i k
-
-leaving-below : (k : ℕ) (z : NumSet) (i : ℕ) → i < k → leaving k z i ≡ z i
-unfolding leaving
-leaving-below k z i h = rw (ne-eqb i k (λ e. omega arith)) (and-last-true (z i))
-
-taking-below : (k : ℕ) (z : NumSet) (i : ℕ) → i < k → taking k z i ≡ z i
-unfolding taking
-taking-below k z i h = rw (ne-eqb i k (λ e. omega arith)) (or-last-false (z i))
-
-leaving-at : (k : ℕ) (z : NumSet) → leaving k z k ≡ false
-unfolding leaving
-leaving-at k z = rw (eq-eqb k k refl) (and-last-false (z k))
-
-taking-at : (k : ℕ) (z : NumSet) → taking k z k ≡ true
-unfolding taking
-taking-at k z = or-right (z k) (eqb k k) (eq-eqb k k refl)
-
 -- a sum over the units below k + 1, by what the set does with unit k
-sum-without : (k : ℕ) (z : NumSet) (f : ℕ → ℕ) → z k ≡ false → sumTo (suc k) (pick z f) ≡ sumTo k (pick z f)
+sum-passed : (k : ℕ) (z : NumSet) (f : ℕ → ℕ) → z k ≡ false → sumTo (suc k) (pick z f) ≡ sumTo k (pick z f)
 unfolding sumTo pick
-sum-without k z f e = rw e (omega arith)
+sum-passed k z f e = rw e (omega arith)
 
-sum-with : (k : ℕ) (z : NumSet) (f : ℕ → ℕ) → z k ≡ true → sumTo (suc k) (pick z f) ≡ sumTo k (pick z f) + f k
+sum-taken : (k : ℕ) (z : NumSet) (f : ℕ → ℕ) → z k ≡ true → sumTo (suc k) (pick z f) ≡ sumTo k (pick z f) + f k
 unfolding sumTo pick
-sum-with k z f e = rw e
+sum-taken k z f e = rw e
 
-leaving-sum : (k : ℕ) (z : NumSet) (f : ℕ → ℕ) → sumTo (suc k) (pick (leaving k z) f) ≡ sumTo k (pick z f)
-leaving-sum k z f = sum-without k (leaving k z) f (leaving-at k z) ∙ pick-agree k z (leaving k z) f (leaving-below k z)
+without-below : (k : ℕ) (z : NumSet) (i : ℕ) → i < k → without z k i ≡ z i
+without-below k z i h = without-else z k i (λ e. omega arith)
 
-taking-sum : (k : ℕ) (z : NumSet) (f : ℕ → ℕ) → sumTo (suc k) (pick (taking k z) f) ≡ sumTo k (pick z f) + f k
-taking-sum k z f =
-    sum-with k (taking k z) f (taking-at k z) ∙ ap (λ (a : ℕ). a + f k) (pick-agree k z (taking k z) f (taking-below k z))
+with-below : (k : ℕ) (z : NumSet) (i : ℕ) → i < k → with z k i ≡ z i
+with-below k z i h = with-else z k i (λ e. omega arith)
+
+without-sum : (k : ℕ) (z : NumSet) (f : ℕ → ℕ) → sumTo (suc k) (pick (without z k) f) ≡ sumTo k (pick z f)
+without-sum k z f = sum-passed k (without z k) f (without-at z k) ∙ pick-agree k z (without z k) f (without-below k z)
+
+with-sum : (k : ℕ) (z : NumSet) (f : ℕ → ℕ) → sumTo (suc k) (pick (with z k) f) ≡ sumTo k (pick z f) + f k
+with-sum k z f = sum-taken k (with z k) f (with-at z k) ∙ ap (λ (a : ℕ). a + f k) (pick-agree k z (with z k) f (with-below k z))
 
 module _ (free : NumSet) (gives weighs : ℕ → ℕ) where
   -- ---- covers with one unit more
 
-  leaving-covers : {k need : ℕ} {z : NumSet} → Covers free gives k need z → Covers free gives (suc k) need (leaving k z)
-  leaving-covers {k} {need} {z} c = record { allowed = λ i l e. by i l e (ℕ-discrete i k); enough = omega (arith, c .enough, leaving-sum k z gives) }
+  without-covers : {k need : ℕ} {z : NumSet} → Covers free gives k need z → Covers free gives (suc k) need (without z k)
+  without-covers {k} {need} {z} c = record { allowed = λ i l e. by i l e (ℕ-discrete i k); enough = omega (arith, c .enough, without-sum k z gives) }
     where
-      by : (i : ℕ) → i < suc k → leaving k z i ≡ true → Dec (i ≡ k) → free i ≡ true
-      by i l e (yes q) = true-false (sym e ∙ ap (leaving k z) q ∙ leaving-at k z)
-      by i l e (no n) = let b : i < k = omega arith in c .allowed i b (sym (leaving-below k z i b) ∙ e)
+      by : (i : ℕ) → i < suc k → without z k i ≡ true → Dec (i ≡ k) → free i ≡ true
+      by i l e (yes q) = true-false (sym e ∙ ap (without z k) q ∙ without-at z k)
+      by i l e (no n) = let b : i < k = omega arith in c .allowed i b (sym (without-below k z i b) ∙ e)
 
-  taking-covers : {k need : ℕ} {z : NumSet} → free k ≡ true → Covers free gives k (need - gives k) z → Covers free gives (suc k) need (taking k z)
-  taking-covers {k} {need} {z} f c = record { allowed = λ i l e. by i l e (ℕ-discrete i k); enough = omega (arith, c .enough, taking-sum k z gives) }
+  with-covers : {k need : ℕ} {z : NumSet} → free k ≡ true → Covers free gives k (need - gives k) z → Covers free gives (suc k) need (with z k)
+  with-covers {k} {need} {z} f c = record { allowed = λ i l e. by i l e (ℕ-discrete i k); enough = omega (arith, c .enough, with-sum k z gives) }
     where
-      by : (i : ℕ) → i < suc k → taking k z i ≡ true → Dec (i ≡ k) → free i ≡ true
+      by : (i : ℕ) → i < suc k → with z k i ≡ true → Dec (i ≡ k) → free i ≡ true
       by i l e (yes q) = ap free q ∙ f
-      by i l e (no n) = let b : i < k = omega arith in c .allowed i b (sym (taking-below k z i b) ∙ e)
+      by i l e (no n) = let b : i < k = omega arith in c .allowed i b (sym (with-below k z i b) ∙ e)
 
   -- what a cover of more units leaves to those below
   covers-without : {k need : ℕ} {z : NumSet} → z k ≡ false → Covers free gives (suc k) need z → Covers free gives k need z
   covers-without {k} {need} {z} e c = record {
     allowed = λ i l. c .allowed i (omega arith);
-    enough = omega (arith, c .enough, sum-without k z gives e);
+    enough = omega (arith, c .enough, sum-passed k z gives e);
   }
 
   covers-with : {k need : ℕ} {z : NumSet} → z k ≡ true → Covers free gives (suc k) need z → Covers free gives k (need - gives k) z
-  covers-with {k} {need} {z} e c = record { allowed = λ i l. c .allowed i (omega arith); enough = omega (arith, c .enough, sum-with k z gives e) }
+  covers-with {k} {need} {z} e c = record { allowed = λ i l. c .allowed i (omega arith); enough = omega (arith, c .enough, sum-taken k z gives e) }
 
   -- ---- a turn of the choice: unit k is not free
 
@@ -117,10 +100,10 @@ module _ (free : NumSet) (gives weighs : ℕ → ℕ) where
   dull-more k need weight best h ih = by (free k) refl
     where
       low : best ≡ coverTo free gives weighs k need weight best
-      low = ih need weight (λ z c. omega (arith, h (leaving k z) (leaving-covers c), leaving-sum k z weighs))
+      low = ih need weight (λ z c. omega (arith, h (without z k) (without-covers c), without-sum k z weighs))
 
       high : free k ≡ true → best ≡ coverTo free gives weighs k (need - gives k) (weight + weighs k) best
-      high e = ih (need - gives k) (weight + weighs k) (λ z c. omega (arith, h (taking k z) (taking-covers e c), taking-sum k z weighs))
+      high e = ih (need - gives k) (weight + weighs k) (λ z c. omega (arith, h (with z k) (with-covers e c), with-sum k z weighs))
 
       by : (b : Bool) → free k ≡ b → best ≡ coverTo free gives weighs (suc k) need weight best
       by false e = low ∙ sym (cover-passed k need weight best e)
@@ -161,7 +144,7 @@ module _ (free : NumSet) (gives weighs : ℕ → ℕ) where
   least-more k need weight best z c ih = by (z k) refl
     where
       low : z k ≡ false → coverTo free gives weighs k need weight best ≤ weight + sumTo (suc k) (pick z weighs)
-      low e = omega (arith, ih need weight best (covers-without e c), sum-without k z weighs e)
+      low e = omega (arith, ih need weight best (covers-without e c), sum-passed k z weighs e)
 
       passed : (b : Bool) → free k ≡ b → z k ≡ false → coverTo free gives weighs (suc k) need weight best ≤ weight + sumTo (suc k) (pick z weighs)
       passed false f e = rw (cover-passed k need weight best f) (low e)
@@ -174,7 +157,7 @@ module _ (free : NumSet) (gives weighs : ℕ → ℕ) where
           (omega (
             arith,
             ih (need - gives k) (weight + weighs k) (coverTo free gives weighs k need weight best) (covers-with e c),
-            sum-with k z weighs e,
+            sum-taken k z weighs e,
           ))
 
   -- nor more than any cover weighs
@@ -189,19 +172,19 @@ module _ (free : NumSet) (gives weighs : ℕ → ℕ) where
   cover-least (suc k) need weight best z c = least-more k need weight best z c (λ n w b. cover-least k n w b z)
 
   -- a cover of fewer units, or of fewer and unit k, as one of those below k + 1
-  reached-leaving : {k need weight v : ℕ} → Reached free gives weighs k need weight v → Reached free gives weighs (suc k) need weight v
-  reached-leaving {k} r = record {
-    set = leaving k (r .set);
-    covers = leaving-covers (r .covers);
-    weight = omega (arith, r .weight, leaving-sum k (r .set) weighs);
+  reached-without : {k need weight v : ℕ} → Reached free gives weighs k need weight v → Reached free gives weighs (suc k) need weight v
+  reached-without {k} r = record {
+    set = without (r .set) k;
+    covers = without-covers (r .covers);
+    weight = omega (arith, r .weight, without-sum k (r .set) weighs);
   }
 
-  reached-taking : {k need weight v : ℕ} → free k ≡ true → Reached free gives weighs k (need - gives k) (weight + weighs k) v
+  reached-with : {k need weight v : ℕ} → free k ≡ true → Reached free gives weighs k (need - gives k) (weight + weighs k) v
       → Reached free gives weighs (suc k) need weight v
-  reached-taking {k} e r = record {
-    set = taking k (r .set);
-    covers = taking-covers e (r .covers);
-    weight = omega (arith, r .weight, taking-sum k (r .set) weighs);
+  reached-with {k} e r = record {
+    set = with (r .set) k;
+    covers = with-covers e (r .covers);
+    weight = omega (arith, r .weight, with-sum k (r .set) weighs);
   }
 
   -- either the best so far, or what some cover weighs
@@ -210,12 +193,12 @@ module _ (free : NumSet) (gives weighs : ℕ → ℕ) where
 
   found-low : {k need weight best low : ℕ} → Found k need weight best low → (v : ℕ) → v ≡ low → Found (suc k) need weight best v
   found-low (inl e) v q = inl (q ∙ e)
-  found-low {k} {need} {weight} (inr r) v q = inr (subst (Reached free gives weighs (suc k) need weight) (sym q) (reached-leaving r))
+  found-low {k} {need} {weight} (inr r) v q = inr (subst (Reached free gives weighs (suc k) need weight) (sym q) (reached-without r))
 
   found-high : {k need weight best low : ℕ} → free k ≡ true → Found k need weight best low → (v : ℕ)
       → Found k (need - gives k) (weight + weighs k) low v → Found (suc k) need weight best v
   found-high f l v (inl q) = found-low l v q
-  found-high f l v (inr r) = inr (reached-taking f r)
+  found-high f l v (inr r) = inr (reached-with f r)
 
   found-more : (k need weight best : ℕ) → ((n w b : ℕ) → Found k n w b (coverTo free gives weighs k n w b))
       → Found (suc k) need weight best (coverTo free gives weighs (suc k) need weight best)

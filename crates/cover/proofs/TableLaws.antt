@@ -111,21 +111,24 @@ term-most p f most k s r h e t l =
 -- capacities added
 pub caps-fit : (xs : List ℕ) (p : NumSet) (k s r : ℕ) → Caps xs → s ≡ sumTo k (pick p (entry xs)) → r ≡ pick p (entry xs) k → k < 16
     → s + r < 18446744073709551616
+unfolding entry
 caps-fit xs p k s r a e t l = omega (arith, term-most p (entry xs) 1000000 k s r (a .most) e t l)
 
 -- the same below a bound of the code's own
 pub caps-below : (xs : List ℕ) (p : NumSet) (u k s r : ℕ) → Caps xs → u ≤ 16 → k < u → s ≡ sumTo k (pick p (entry xs)) → r ≡ pick p (entry xs) k
     → s + r < 18446744073709551616
+unfolding entry
 caps-below xs p u k s r a few l e t = omega (arith, term-most p (entry xs) 1000000 k s r (a .most) e t (omega arith))
 
 -- weights added
 pub weights-below : (xs : List ℕ) (p : NumSet) (u k s r : ℕ) → Weights xs → u ≤ 16 → k < u → s ≡ sumTo k (pick p (entry xs)) → r ≡ pick p (entry xs) k
     → s + r < 18446744073709551616
+unfolding entry
 weights-below xs p u k s r a few l e t = omega (arith, term-most p (entry xs) MOST_WEIGHT k s r (a .most) e t (omega arith))
 
 surplus-small : (rate : ℕ) (caps weights : List ℕ) → Caps caps → rate ≤ MOST_WEIGHT
     → (i : ℕ) → surplus rate (entry caps) (entry weights) i ≤ MOST_SURPLUS
-unfolding surplus
+unfolding surplus entry
 surplus-small rate caps weights a l i = omega (arith, mul-le-mul l (a .most i))
 
 -- surpluses added
@@ -206,6 +209,7 @@ spared-free out guess i e = and-right (has guess i) (not (has out i)) e
 pub candidate-some : (caps weights : List ℕ) (out guess u need given weight : ℕ) → Weights weights → u ≤ 16
     → given ≡ sumTo u (pick (spared out guess) (entry caps)) → need ≤ given → weight ≡ sumTo u (pick (spared out guess) (entry weights))
     → Candidate (away (has out)) (entry caps) (entry weights) u need weight
+unfolding entry
 candidate-some caps weights out guess u need given weight w few a n b = record {
   most = omega (arith, b, sum-most (spared out guess) (entry weights) MOST_WEIGHT u (w .most) few);
   reached = λ z. record {
@@ -253,17 +257,15 @@ turn-out out gives weighs k need weight best low b e is z h =
     rw q (h ∙ sym (cover-passed (away (has out)) gives weighs (k - 1) need weight best (ap not (sym is ∙ e))))
 
 -- or it is not: the choice goes on with it taken
-pub turn-in : (out : ℕ) (caps weights : List ℕ) (k need weight best low rest r : ℕ) (b : Bool) → b ≡ false → b ≡ has out (k - 1) → (k ≡ 0 → ⊥)
+pub turn-in : (out : ℕ) (caps weights : List ℕ) (k need weight best low rest more r : ℕ) (b : Bool) → b ≡ false → b ≡ has out (k - 1) → (k ≡ 0 → ⊥)
     → low ≡ coverTo (away (has out)) (entry caps) (entry weights) (k - 1) need weight best → rest ≡ need - getD caps (k - 1) 0
-    → r ≡ coverTo (away (has out)) (entry caps) (entry weights) (k - 1) rest (weight + getD weights (k - 1) 0) low
+    → more ≡ weight + entry weights (k - 1) → r ≡ coverTo (away (has out)) (entry caps) (entry weights) (k - 1) rest more low
     → r ≡ coverTo (away (has out)) (entry caps) (entry weights) k need weight best
 unfolding away entry
-turn-in out caps weights k need weight best low rest r b e is z h n t =
+turn-in out caps weights k need weight best low rest more r b e is z h n m t =
     let q : k ≡ suc (k - 1) = omega arith in
-    rw q (rw (n, h) at t ∙ sym (cover-taken (away (has out)) (entry caps) (entry weights) (k - 1) need weight best (ap not (sym is ∙ e))))
+    rw q (rw (n, m, h) at t ∙ sym (cover-taken (away (has out)) (entry caps) (entry weights) (k - 1) need weight best (ap not (sym is ∙ e))))
 
 -- a weight more fits a word
-pub weight-more : (out rate : ℕ) (caps weights room gain : List ℕ) (i weight best : ℕ) → Ready out rate caps weights room gain → weight < best
-    → best ≤ UNCOVERED → weight + getD weights i 0 < 18446744073709551616
-unfolding entry
-weight-more out rate caps weights room gain i weight best y h b = omega (arith, y .weights-fit .most i)
+pub weight-more : (weights : List ℕ) (i weight : ℕ) → Weights weights → weight < UNCOVERED → weight + getD weights i 0 < 18446744073709551616
+weight-more weights i weight w h = omega (arith, w .most i)

@@ -6,6 +6,7 @@ use mathlib.Core.Bool.{not, _&&_}
 use mathlib.Core.List.{List}
 use lib.ListN.{getD}
 use Rattle.sums.specs.Sum.{sumTo}
+use Rattle.sums.specs.Table.{AtMost}
 use Rattle.sums.specs.NumSet.{NumSet, pick, away, has}
 
 -- the number at a place of a table, 0 past its end
@@ -13,8 +14,8 @@ unfoldable pub entry : List ℕ → ℕ → ℕ
 entry xs i = getD xs i 0
 
 -- capacities, in kilograms, as a file may have them
-pub record Caps (xs : List ℕ) : Type 0 where
-  pub most : (i : ℕ) → entry xs i ≤ 1000000
+abbrev pub Caps : List ℕ → Type 0
+Caps xs = AtMost 1000000 xs
 
 -- 2 ^ 34: what a unit may weigh, which keeps every sum and product in a word of 64 bits
 abbrev pub MOST_WEIGHT : ℕ
@@ -28,8 +29,8 @@ abbrev pub MOST_GAIN : ℕ
 MOST_GAIN = 274877906944000000
 
 -- weights as the choice can take them
-pub record Weights (xs : List ℕ) : Type 0 where
-  pub most : (i : ℕ) → entry xs i ≤ MOST_WEIGHT
+abbrev pub Weights : List ℕ → Type 0
+Weights xs = AtMost MOST_WEIGHT xs
 
 -- the places of a table up to n hold the sums of f over the free units below
 pub record SumsTo (free : NumSet) (f : ℕ → ℕ) (n : ℕ) (table : List ℕ) : Type 0 where

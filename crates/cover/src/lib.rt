@@ -19,16 +19,6 @@ struct Advice {
     guess: u32,
 }
 
-// a - b, 0 where b is larger.
-fn above(a: u64, b: u64) -> u64
-    ensures { λ r. ⌜ r ≡ a - b ⌝ }
-{
-    if a < b {
-        return 0;
-    }
-    a - b
-}
-
 // a / b, 0 where b is 0.
 fn ratio(a: u64, b: u64) -> u64
     ensures { λ r. ⌜ r ≤ a ⌝ }
@@ -186,7 +176,7 @@ fn free_surplus(caps: &[u64; 16], weights: &[u64; 16], rate: u64, out: u32, i: u
     if sets::has(out, i) {
         return 0;
     }
-    above(rate * caps[i], weights[i])
+    words::saturating_sub(rate * caps[i], weights[i])
 }
 
 // For each k, what the free units below k yield together above their weights.
@@ -214,6 +204,14 @@ fn hopeless(rate: u64, gain: u64, need: Kilo, weight: u64, best: u64) -> bool
     ensures { λ r. ⌜ r ≡ leb (best + gain) (weight + rate * need .0) ⌝ }
 {
     best + gain <= weight + rate * need.0
+}
+
+// The weight with unit i taken as well.
+fn weight_with(weights: &[u64; 16], i: usize, weight: u64) -> u64
+    requires { ⌜ Weights (now weights) × (i < 16) × (weight < UNCOVERED) ⌝ }
+    ensures { λ r. ⌜ r ≡ weight + entry (now (weights .entry)) i ⌝ }
+{
+    weight + weights[i]
 }
 
 // The best weight after all choices among the units below k, where those taken so far have this weight and leave this need.
@@ -273,7 +271,7 @@ fn walk(
         out,
         top,
         rest,
-        weight + weights[top],
+        weight_with(weights, top, weight),
         low,
     )
 }

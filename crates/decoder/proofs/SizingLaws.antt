@@ -10,8 +10,8 @@ use native.Mathlib.Omega.{arith}
 use mir.Syntax.{w64}
 use mir.Val.{Fits}
 use Rattle.sums.specs.Sum.{sumTo}
-use Rattle.model.specs.Words.{valueAt, problemOf}
-use Rattle.model.specs.Prefix.{powerUp, spaceBound}
+use Rattle.model.specs.Words.{VALUES, valueAt, problemOf}
+use Rattle.model.specs.Prefix.{powerUp, spaceBound, MOST_FIGURE}
 use Rattle.model.specs.Verdict.{accepted, refused, gives, denies}
 use Rattle.model.specs.Reading.{readOf}
 use Rattle.model.specs.Sizing.{sizingOf}
@@ -32,29 +32,29 @@ cap-product c a (suc w) = go (decLt c a)
     go (no h) = let e : min c a ≡ a = omega arith in rw e
 
 -- before the first power
-pub sum-start : (w : ℕ) → 0 ≡ min 268435455 (sumTo 0 (powerUp w))
+pub sum-start : (w : ℕ) → 0 ≡ min MOST_FIGURE (sumTo 0 (powerUp w))
 unfolding sumTo
 sum-start w = refl
 
-pub power-start : (w : ℕ) → 1 ≡ min 268435455 (w ^ 0)
+pub power-start : (w : ℕ) → 1 ≡ min MOST_FIGURE (w ^ 0)
 power-start w = rw (pow-zero w)
 
 -- a figure times a number of weeks is a machine's number
-pub cap-fits : (w power : ℕ) → w < 268435456 → power ≤ 268435455 → Fits w64 (power * w)
+pub cap-fits : (w power : ℕ) → w < VALUES → power ≤ MOST_FIGURE → Fits w64 (power * w)
 cap-fits w power h p = omega (arith, mul-le-mul p (le-of-lt h))
 
 -- the next power
-pub cap-power : (w j power r : ℕ) → power ≡ min 268435455 (w ^ j) → r ≡ min 268435455 (power * w) → r ≡ min 268435455 (w ^ (j + 1))
-cap-power w j power r e is = let q = cap-product 268435455 (w ^ j) w in rw (add-one, pow-suc, ← q, ← e) is
+pub cap-power : (w j power r : ℕ) → power ≡ min MOST_FIGURE (w ^ j) → r ≡ min MOST_FIGURE (power * w) → r ≡ min MOST_FIGURE (w ^ (j + 1))
+cap-power w j power r e is = let q = cap-product MOST_FIGURE (w ^ j) w in rw (add-one, pow-suc, ← q, ← e) is
 
 -- the next sum
-pub cap-sum : (w j sum power next r : ℕ) → sum ≡ min 268435455 (sumTo j (powerUp w)) → power ≡ min 268435455 (w ^ j)
-    → next ≡ min 268435455 (power * w) → r ≡ min 268435455 (sum + next) → r ≡ min 268435455 (sumTo (j + 1) (powerUp w))
+pub cap-sum : (w j sum power next r : ℕ) → sum ≡ min MOST_FIGURE (sumTo j (powerUp w)) → power ≡ min MOST_FIGURE (w ^ j)
+    → next ≡ min MOST_FIGURE (power * w) → r ≡ min MOST_FIGURE (sum + next) → r ≡ min MOST_FIGURE (sumTo (j + 1) (powerUp w))
 unfolding sumTo powerUp
 cap-sum w j sum power next r es ep en is = let e = cap-power w j power next ep en in rw add-one (omega arith)
 
 -- all powers
-pub cap-ended : (w j u sum : ℕ) → sum ≡ min 268435455 (sumTo j (powerUp w)) → j ≤ u → u ≤ j → sum ≡ min 268435455 (sumTo u (powerUp w))
+pub cap-ended : (w j u sum : ℕ) → sum ≡ min MOST_FIGURE (sumTo j (powerUp w)) → j ≤ u → u ≤ j → sum ≡ min MOST_FIGURE (sumTo u (powerUp w))
 cap-ended w j u sum e h g = let q : j ≡ u = omega arith in rw q at e
 
 -- ---- the answer
@@ -64,6 +64,6 @@ module _ (ws : List ℕ) (v : Verdict) (said : verdictOf v ≡ readOf ws) where
   unfolding sizingOf
   sized-refused number place e = let q : refused number place ≡ readOf ws = rw e at said in rw (← q)
 
-  pub sized-accepted : (w u r : ℕ) → v ≡ Accepted → w ≡ valueAt ws 0 → u ≡ valueAt ws 1 → r ≡ min 268435455 (sumTo u (powerUp w)) → gives r ≡ sizingOf ws
+  pub sized-accepted : (w u r : ℕ) → v ≡ Accepted → w ≡ valueAt ws 0 → u ≡ valueAt ws 1 → r ≡ min MOST_FIGURE (sumTo u (powerUp w)) → gives r ≡ sizingOf ws
   unfolding sizingOf spaceBound problemOf
   sized-accepted w u r e ew eu is = let q : accepted ≡ readOf ws = rw e at said in rw (← q, is, ew, eu)

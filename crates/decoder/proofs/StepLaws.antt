@@ -12,7 +12,7 @@ use borrow.Author.Tests.{lt-ltb, le-ltb, ltb-true, eq-eqb, ne-eqb, eqb-true, eqb
 use Rattle.sums.specs.Logic.{if}
 use Rattle.sums.proofs.LogicLaws.{true-false, and-left, and-right, not-at}
 use Rattle.model.specs.declared.Layout.{Layout}
-use Rattle.model.specs.Words.{kindOf, valueOf, kindAt, valueAt, Laid, layoutOf}
+use Rattle.model.specs.Words.{VALUES, kindOf, valueOf, kindAt, valueAt, Laid, layoutOf}
 use Rattle.model.specs.Verdict.{accepted, refused}
 use Rattle.model.specs.Reading.{dueAt, pairFault, valueFault, faultFor, faultAt, readFrom, readOf}
 use Rattle.model.proofs.ReadingLaws.{layout-laid, due-pair, kind-fits}
@@ -115,7 +115,7 @@ stage-clear ws l q most next laid goes on =
     }
 
 -- a word at a distance up to most from the kind's word of value 0 has that kind and a value up to most
-module _ (k y most low d : ℕ) (s : most < 268435456) (at : low ≡ k * 268435456) (top : low ≤ 4026531840) (is : (d + low) % 2 ^ 32 ≡ y) (near : d ≤ most) where
+module _ (k y most low d : ℕ) (s : most < VALUES) (at : low ≡ k * VALUES) (top : low ≤ 15 * VALUES) (is : (d + low) % 2 ^ 32 ≡ y) (near : d ≤ most) where
   near-kind : kindOf y ≡ k
   unfolding kindOf
   near-kind = omega arith
@@ -160,8 +160,8 @@ module _ (ws : List ℕ) (q : ℕ) where
 
   module _ (p : ℕ) (same : readFrom ws (q + 1) (length ws - (q + 1)) ≡ readFrom ws p (length ws - p)) where
     -- one word more
-    pub pass-next : (most next end low d : ℕ) → Clear ws q most next → q < p → p < end → end ≡ min next (length ws) → most < 268435456
-        → low ≡ kindOf (getD ws q 0) * 268435456 → low ≤ 4026531840 → (d + low) % 2 ^ 32 ≡ getD ws p 0 → d ≤ most
+    pub pass-next : (most next end low d : ℕ) → Clear ws q most next → q < p → p < end → end ≡ min next (length ws) → most < VALUES
+        → low ≡ kindOf (getD ws q 0) * VALUES → low ≤ 15 * VALUES → (d + low) % 2 ^ 32 ≡ getD ws p 0 → d ≤ most
         → readFrom ws (q + 1) (length ws - (q + 1)) ≡ readFrom ws (p + 1) (length ws - (p + 1))
     unfolding kindAt valueAt
     pass-next most next end low d clear a b c s at top is near =

@@ -8,12 +8,12 @@ use lib.ListN.{length}
 use lib.Dec.{ltb, eqb}
 use Rattle.sums.specs.Logic.{if}
 use Rattle.model.specs.declared.Layout.{Layout}
-use Rattle.model.specs.Words.{kindOf, valueOf, kindAt, valueAt}
+use Rattle.model.specs.Words.{VALUES, kindOf, valueOf, kindAt, valueAt}
 use Rattle.model.specs.Reading.{dueAt, pairFault, faultFor, faultAt, readFrom}
 
 -- where kind k is due at place q, words of kind k and values up to most have no fault after it, up to the place next
 pub record Onward (l : Layout) (q k most next : ℕ) : Type 0 where
-  pub small : most < 268435456
+  pub small : most < VALUES
   pub free : dueAt l q ≡ k → (p prev v : ℕ) → q < p → p < next → v ≤ most → faultFor l p prev k v ≡ 0
 
 -- the fault of a word among the pairs, at place p after a word of value prev, unless it is the end word

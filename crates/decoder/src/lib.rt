@@ -1,14 +1,15 @@
 // Words read, or refused under one number with the place of the first fault.
 use model::Layout;
+use model::VALUES;
 ghost use Prim.Native.Nat.{_+_, _-_, _*_, _<_, _≤_, _^_, min};
 ghost use mathlib.Core.Path.{_≡_};
 ghost use mathlib.Core.Bool.{true, false};
 ghost use lib.ListN.{length};
 ghost use Rattle.sums.specs.Sum.{sumTo};
-ghost use Rattle.model.specs.Words.{kindOf, kindAt, valueAt, Laid, layoutOf};
+ghost use Rattle.model.specs.Words.{VALUES, kindOf, kindAt, valueAt, Laid, layoutOf};
 ghost use Rattle.model.specs.Bytes.{wordFrom, loadOf, loadedInto};
 ghost use Rattle.model.specs.Reading.{dueAt, within, windowFault, pairFault, endFault, valueFault, faultFor, faultAt, readFrom, readOf};
-ghost use Rattle.model.specs.Prefix.{powerUp};
+ghost use Rattle.model.specs.Prefix.{powerUp, MOST_FIGURE};
 ghost use Rattle.model.specs.Sizing.{sizingOf};
 ghost use Rattle.decoder.specs.Stages.{Onward, asPair, openAt, Clear, Passed};
 ghost use Rattle.decoder.specs.Answers.{verdictOf, replyOf};
@@ -150,7 +151,7 @@ fn alone(fault: u32, q: usize) -> Stage
 fn section(most: u32, next: usize, v: usize) -> Stage
     ensures { λ r. ⌜ (r .fault ≡ within 0 most v) × (r .most ≡ most) × (r .next ≡ next) ⌝ }
 {
-    let fault = range(0, instance::wide(most), v);
+    let fault = range(0, words::widen(most), v);
     Stage { fault, most, next }
 }
 
@@ -202,9 +203,9 @@ fn value_before(words: &[u32], q: usize) -> usize
     ensures { λ r. ⌜ r ≡ valueAt (now (words .entry)) (q - 1) ⌝ }
 {
     if q == 0 {
-        return instance::value_at(words, 0);
+        return words::value_at(words, 0);
     }
-    instance::value_at(words, q - 1)
+    words::value_at(words, q - 1)
 }
 
 // The stage of the word at place q.
@@ -215,38 +216,28 @@ fn stage_at(words: &[u32], l: Layout, q: usize) -> Stage
 {
     let prev = value_before(words, q);
     let word = words[q];
-    let k = instance::kind_of(word);
-    let v = instance::value_of(word);
+    let k = words::kind_of(word);
+    let v = words::value_of(word);
     stage_for(l, q, prev, k, v)
-}
-
-// The smaller of two places.
-fn least(a: usize, b: usize) -> usize
-    ensures { λ r. ⌜ r ≡ min a b ⌝ }
-{
-    if a < b {
-        return a;
-    }
-    b
 }
 
 // The word of value 0 and the same kind.
 fn kind_floor(word: u32) -> u32
-    ensures { λ r. ⌜ (r ≡ kindOf word * 268435456) × (r ≤ 4026531840) ⌝ }
+    ensures { λ r. ⌜ (r ≡ kindOf word * VALUES) × (r ≤ 15 * VALUES) ⌝ }
 {
-    word / 268435456 * 268435456
+    word / VALUES as u32 * VALUES as u32
 }
 
 // Passes the word at place q and all that follow in its stage and range. A word's distance from the kind's word of value 0, modulo 2^32,
 // settles kind and range in one comparison.
 fn pass(words: &[u32], q: usize, s: Stage) -> usize
     requires { ⌜ Clear (now words) q (s .most) (s .next) ⌝ }
-    requires { ⌜ (q < length (now words)) × (s .most < 268435456) ⌝ }
+    requires { ⌜ (q < length (now words)) × (s .most < VALUES) ⌝ }
     ensures { λ r. ⌜ Passed (now (words .entry)) q r ⌝ }
 {
     let most = s.most;
     let low = kind_floor(words[q]);
-    let end = least(s.next, words.len());
+    let end = words::min(s.next, words.len());
     let mut p = q + 1;
     while p < end {
         let distance = std::num::wrapping_sub_u32(words[p], low);
@@ -262,10 +253,10 @@ fn pass(words: &[u32], q: usize, s: Stage) -> usize
 fn fault_as_pair(l: Layout, p: usize, prev: usize, word: u32) -> u32
     ensures { λ r. ⌜ r ≡ asPair l p prev word ⌝ }
 {
-    if instance::kind_of(word) != 10 {
+    if words::kind_of(word) != 10 {
         return 1;
     }
-    pair_fault(l, p, prev, instance::value_of(word))
+    pair_fault(l, p, prev, words::value_of(word))
 }
 
 // Passes the word at place q, among the pairs, and the right pairs that follow it.
@@ -273,14 +264,14 @@ fn pass_pairs(words: &[u32], l: Layout, q: usize) -> usize
     requires { ⌜ (l ≡ layoutOf (now words)) × (q < length (now words)) × (l .pairs ≤ q) ⌝ }
     ensures { λ r. ⌜ Passed (now (words .entry)) q r ⌝ }
 {
-    let mut prev = instance::value_of(words[q]);
+    let mut prev = words::value_of(words[q]);
     let mut p = q + 1;
     while p < words.len() {
         let word = words[p];
         if fault_as_pair(l, p, prev, word) != 0 {
             return p;
         }
-        prev = instance::value_of(word);
+        prev = words::value_of(word);
         p += 1;
     }
     p
@@ -289,7 +280,7 @@ fn pass_pairs(words: &[u32], l: Layout, q: usize) -> usize
 // Passes the word at place q and those that follow without a fault, as far as one loop can tell.
 fn pass_stage(words: &[u32], l: Layout, q: usize, s: Stage) -> usize
     requires { ⌜ Clear (now words) q (s .most) (s .next) ⌝ }
-    requires { ⌜ (l ≡ layoutOf (now words)) × (q < length (now words)) × (s .most < 268435456) ⌝ }
+    requires { ⌜ (l ≡ layoutOf (now words)) × (q < length (now words)) × (s .most < VALUES) ⌝ }
     ensures { λ r. ⌜ Passed (now (words .entry)) q r ⌝ }
 {
     if l.pairs <= q {
@@ -320,7 +311,7 @@ fn open_at(words: &[u32], q: usize) -> bool
     if fault_at(words, q) != 0 {
         return false;
     }
-    if instance::kind_of(words[q]) == 15 {
+    if words::kind_of(words[q]) == 15 {
         return false;
     }
     true
@@ -446,20 +437,23 @@ pub fn load(bytes: &[u8], words: &mut [u32]) -> Reply
 
 // ---- the sizing figure
 
-// The smaller of n and 268,435,455, the greatest figure.
+// 2^28 - 1: the greatest sizing figure.
+pub const MOST_FIGURE: usize = 268435455;
+
+// The smaller of n and the greatest figure.
 fn capped(n: usize) -> usize
-    ensures { λ r. ⌜ (r ≡ min 268435455 n) × (r ≤ 268435455) ⌝ }
+    ensures { λ r. ⌜ (r ≡ min MOST_FIGURE n) × (r ≤ MOST_FIGURE) ⌝ }
 {
-    if 268435455 < n {
-        return 268435455;
+    if MOST_FIGURE < n {
+        return MOST_FIGURE;
     }
     n
 }
 
-// The smaller of 268,435,455 and w + w^2 + .. + w^u. What lies above is cut off at each step, and what is cut off stays so.
+// The smaller of the greatest figure and w + w^2 + .. + w^u. What lies above is cut off at each step, and what is cut off stays so.
 fn space_bound(w: usize, u: usize) -> usize
-    requires { ⌜ w < 268435456 ⌝ }
-    ensures { λ r. ⌜ r ≡ min 268435455 (sumTo u (powerUp w)) ⌝ }
+    requires { ⌜ w < VALUES ⌝ }
+    ensures { λ r. ⌜ r ≡ min MOST_FIGURE (sumTo u (powerUp w)) ⌝ }
 {
     let mut power = 1;
     let mut sum = 0;
@@ -478,8 +472,8 @@ pub fn sizing(words: &[u32]) -> Reply
     match v {
         Verdict::Refused(number, place) => Reply::Denied(number, place),
         Verdict::Accepted => {
-            let w = instance::value_at(words, 0);
-            let u = instance::value_at(words, 1);
+            let w = words::value_at(words, 0);
+            let u = words::value_at(words, 1);
             Reply::Number(space_bound(w, u))
         }
     }

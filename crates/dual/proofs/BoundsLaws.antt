@@ -28,8 +28,9 @@ use Rattle.blame.specs.Placed.{firstUnits, outOf}
 use Rattle.blame.specs.Priced.{priced, unitBound, lowerBound, LeastPriced, WeekLeast}
 use Rattle.blame.proofs.BoundLaws.{priced-closed}
 use Rattle.blame.proofs.PlacedLaws.{sum-one}
-use Rattle.relaxation.specs.Relaxed.{priceIn}
-use Rattle.dual.specs.Dual.{leastIn, excessIn, worthIn, Costs, Roots, Dual, Bounds, gainIn, lossOf, PutBack}
+use Rattle.tables.specs.Tables.{priceIn, leastIn, excessIn, rootIn, totalIn}
+use Rattle.dual.specs.Dual.{worthIn, Costs, Roots, Dual, Bounds}
+use Rattle.dual.specs.Blame.{gainIn, lossOf, PutBack}
 
 -- ---- sets of units out
 
@@ -52,26 +53,26 @@ out-more p b c starts t i more e =
 -- ---- a bound that comes to the limit
 
 -- the starts of its units are a dead end
-pub bounds-closed : (p : Problem) (us clashes costs roots : List ℕ) (b : NumSet) (starts : ℕ → ℕ) (xs : List ℕ) (sum limit : ℕ) → Fair p
-    → Dual p us clashes costs roots → Bounds p (priceIn us) costs b starts xs sum → limit + worthIn roots 52 ≤ sum → Closed p b starts limit
-bounds-closed p us clashes costs roots b starts xs sum limit fair d h le =
-    priced-closed p (priceIn us) b starts (leastIn costs) (worthIn xs) limit fair least (h .worths .least) (omega (arith, d .total, h .under))
+pub bounds-closed : (p : Problem) (us : List ℕ) (b : NumSet) (starts : ℕ → ℕ) (xs : List ℕ) (sum limit : ℕ) → Fair p → Dual p us
+    → Bounds p us b starts xs sum → limit + totalIn us ≤ sum → Closed p b starts limit
+bounds-closed p us b starts xs sum limit fair d h le =
+    priced-closed p (priceIn us) b starts (leastIn us) (worthIn xs) limit fair least (h .worths .least) (omega (arith, d .total, h .under))
   where
-    least : LeastPriced p (priceIn us) (leastIn costs)
+    least : LeastPriced p (priceIn us) (leastIn us)
     least = record { below = λ i s l e. omega (arith, d .costs .exact i s l e) }
 
 -- ---- a unit placed
 
-module _ (p : Problem) (u : ℕ → ℕ → ℕ) (costs : List ℕ) (starts : ℕ → ℕ) (xs : List ℕ) (j sum : ℕ) (c : Costs p u (p .units) costs)
+module _ (p : Problem) (us : List ℕ) (starts : ℕ → ℕ) (xs : List ℕ) (j sum : ℕ) (c : Costs p (priceIn us) (p .units) us)
     (unit : j < p .units) (permits : permitted p j (starts j) ≡ true) where
-  -- the bound rises by what its start costs above the least
-  pub bounds-placed : Bounds p u costs (firstUnits j) starts xs sum
-      → Bounds p u costs (firstUnits (j + 1)) starts xs (sum + excessIn costs j (starts j))
+  -- the bound rises by what its start us above the least
+  pub bounds-placed : Bounds p us (firstUnits j) starts xs sum
+      → Bounds p us (firstUnits (j + 1)) starts xs (sum + excessIn us j (starts j))
   unfolding lowerBound unitBound firstUnits
   bounds-placed h = record {
     worths = record {
       long = h .worths .long;
-      least = λ t l. week-more p u t (outOf p (firstUnits j) starts t) (outOf p (firstUnits (j + 1)) starts t) (worthIn xs t)
+      least = λ t l. week-more p (priceIn us) t (outOf p (firstUnits j) starts t) (outOf p (firstUnits (j + 1)) starts t) (worthIn xs t)
           (λ i b. out-more p (firstUnits j) (firstUnits (j + 1)) starts t i (rises i)) (h .worths .least t l);
       small = h .worths .small;
     };
@@ -82,15 +83,15 @@ module _ (p : Problem) (u : ℕ → ℕ → ℕ) (costs : List ℕ) (starts : �
       rises i e = let l = ltb-true i j e in lt-ltb i (j + 1) (omega arith)
 
       before : ℕ → ℕ
-      before = unitBound p u (firstUnits j) starts (leastIn costs)
+      before = unitBound p (priceIn us) (firstUnits j) starts (leastIn us)
 
       after : ℕ → ℕ
-      after = unitBound p u (firstUnits (j + 1)) starts (leastIn costs)
+      after = unitBound p (priceIn us) (firstUnits (j + 1)) starts (leastIn us)
 
       same : (k : ℕ) → k < p .units → (k ≡ j → ⊥) → before k ≡ after k
       same k l ne = go (ltb k j) refl
         where
-          go : (b : Bool) → ltb k j ≡ b → if b (priced p u k (starts k)) (leastIn costs k) ≡ after k
+          go : (b : Bool) → ltb k j ≡ b → if b (priced p (priceIn us) k (starts k)) (leastIn us k) ≡ after k
           go true e = let m = ltb-true k j e in rw (lt-ltb k (j + 1) (omega arith))
           go false e = rw (le-ltb k (j + 1) (above e))
             where
@@ -108,30 +109,30 @@ module _ (p : Problem) (u : ℕ → ℕ → ℕ) (costs : List ℕ) (starts : �
       one : sumTo (p .units) after + before j ≡ sumTo (p .units) before + after j
       one = sum-one (p .units) j before after unit same
 
-      old : before j ≡ leastIn costs j
+      old : before j ≡ leastIn us j
       old = rw (le-ltb j j (omega arith))
 
-      new : after j ≡ priced p u j (starts j)
+      new : after j ≡ priced p (priceIn us) j (starts j)
       new = rw (lt-ltb j (j + 1) (omega arith))
 
 -- ---- other starts
 
 -- only the starts of the units placed count
-pub bounds-agree : (p : Problem) (u : ℕ → ℕ → ℕ) (costs : List ℕ) (starts other : ℕ → ℕ) (xs : List ℕ) (k sum : ℕ)
-    → ((i : ℕ) → i < k → starts i ≡ other i) → Bounds p u costs (firstUnits k) starts xs sum → Bounds p u costs (firstUnits k) other xs sum
+pub bounds-agree : (p : Problem) (us : List ℕ) (starts other : ℕ → ℕ) (xs : List ℕ) (k sum : ℕ)
+    → ((i : ℕ) → i < k → starts i ≡ other i) → Bounds p us (firstUnits k) starts xs sum → Bounds p us (firstUnits k) other xs sum
 unfolding lowerBound unitBound firstUnits outOf outIn
-bounds-agree p u costs starts other xs k sum same h = record {
+bounds-agree p us starts other xs k sum same h = record {
   worths = record {
     long = h .worths .long;
-    least = λ t l. week-more p u t (outOf p (firstUnits k) starts t) (outOf p (firstUnits k) other t) (worthIn xs t) (λ i _. out t i)
+    least = λ t l. week-more p (priceIn us) t (outOf p (firstUnits k) starts t) (outOf p (firstUnits k) other t) (worthIn xs t) (λ i _. out t i)
         (h .worths .least t l);
     small = h .worths .small;
   };
   under = omega (
     arith,
     h .under,
-    sum-same (p .units) (unitBound p u (firstUnits k) starts (leastIn costs))
-        (unitBound p u (firstUnits k) other (leastIn costs)) (λ i _. part i (ltb i k) refl),
+    sum-same (p .units) (unitBound p (priceIn us) (firstUnits k) starts (leastIn us))
+        (unitBound p (priceIn us) (firstUnits k) other (leastIn us)) (λ i _. part i (ltb i k) refl),
   );
 }
   where
@@ -142,16 +143,16 @@ bounds-agree p u costs starts other xs k sum same h = record {
         (subst (λ (v : ℕ). inSpan v (p .duration i) t ≡ true) (same i (ltb-true i k b)) (and-right (ltb i k) (inSpan (starts i) (p .duration i) t) e))
 
     part : (i : ℕ) (b : Bool) → ltb i k ≡ b
-        → if b (priced p u i (starts i)) (leastIn costs i) ≡ if b (priced p u i (other i)) (leastIn costs i)
-    part i true e = ap (priced p u i) (same i (ltb-true i k e))
+        → if b (priced p (priceIn us) i (starts i)) (leastIn us i) ≡ if b (priced p (priceIn us) i (other i)) (leastIn us i)
+    part i true e = ap (priced p (priceIn us) i) (same i (ltb-true i k e))
     part i false e = refl
 
 -- ---- a week worth more
 
-module _ (p : Problem) (u : ℕ → ℕ → ℕ) (costs : List ℕ) (b : NumSet) (starts : ℕ → ℕ) (xs : List ℕ) (sum t v : ℕ) where
+module _ (p : Problem) (us : List ℕ) (b : NumSet) (starts : ℕ → ℕ) (xs : List ℕ) (sum t v : ℕ) where
   -- the bound changes by as much
-  pub bounds-week : Bounds p u costs b starts xs sum → t < p .weeks → p .weeks ≤ 52 → WeekLeast p u t (outOf p b starts t) v → v ≤ NO_RUN
-      → (r : ℕ) → r ≡ sum + v - worthIn xs t → Bounds p u costs b starts (set xs t v) r
+  pub bounds-week : Bounds p us b starts xs sum → t < p .weeks → p .weeks ≤ 52 → WeekLeast p (priceIn us) t (outOf p b starts t) v → v ≤ NO_RUN
+      → (r : ℕ) → r ≡ sum + v - worthIn xs t → Bounds p us b starts (set xs t v) r
   unfolding lowerBound worthIn
   bounds-week h l few w s r e = record {
     worths = record {
@@ -171,11 +172,11 @@ module _ (p : Problem) (u : ℕ → ℕ → ℕ) (costs : List ℕ) (b : NumSet)
       one : sumTo (p .weeks) (worthIn (set xs t v)) + getD xs t 0 ≡ sumTo (p .weeks) (worthIn xs) + getD (set xs t v) t 0
       one = sum-one (p .weeks) t (worthIn xs) (worthIn (set xs t v)) l (λ k m ne. sym (other k ne))
 
-      least : (k : ℕ) → k < p .weeks → Dec (k ≡ t) → WeekLeast p u k (outOf p b starts k) (getD (set xs t v) k 0)
+      least : (k : ℕ) → k < p .weeks → Dec (k ≡ t) → WeekLeast p (priceIn us) k (outOf p b starts k) (getD (set xs t v) k 0)
       least k m (yes q) =
-          subst (λ (z : ℕ). WeekLeast p u z (outOf p b starts z) (getD (set xs t v) z 0)) (sym q)
-          (subst (WeekLeast p u t (outOf p b starts t)) (sym same) w)
-      least k m (no q) = subst (WeekLeast p u k (outOf p b starts k)) (sym (other k q)) (h .worths .least k m)
+          subst (λ (z : ℕ). WeekLeast p (priceIn us) z (outOf p b starts z) (getD (set xs t v) z 0)) (sym q)
+          (subst (WeekLeast p (priceIn us) t (outOf p b starts t)) (sym same) w)
+      least k m (no q) = subst (WeekLeast p (priceIn us) k (outOf p b starts k)) (sym (other k q)) (h .worths .least k m)
 
       small : (k : ℕ) → k < p .weeks → Dec (k ≡ t) → getD (set xs t v) k 0 ≤ NO_RUN
       small k m (yes q) = rw q (omega (arith, same))
@@ -183,9 +184,9 @@ module _ (p : Problem) (u : ℕ → ℕ → ℕ) (costs : List ℕ) (b : NumSet)
 
 -- ---- a unit dropped
 
-module _ (p : Problem) (u : ℕ → ℕ → ℕ) (costs roots : List ℕ) (b c : NumSet) (starts : ℕ → ℕ) (xs ys : List ℕ) (i sum : ℕ) (fair : Fair p)
-    (cs : Costs p u (p .units) costs) (rs : Roots p u (p .weeks) roots) (unit : i < p .units) (permits : permitted p i (starts i) ≡ true)
-    (without : (k : ℕ) → c k ≡ (b k && not (eqb k i))) (back : PutBack p roots starts i xs ys) where
+module _ (p : Problem) (us : List ℕ) (b c : NumSet) (starts : ℕ → ℕ) (xs ys : List ℕ) (i sum : ℕ) (fair : Fair p)
+    (cs : Costs p (priceIn us) (p .units) us) (rs : Roots p (priceIn us) (p .weeks) us) (unit : i < p .units) (permits : permitted p i (starts i) ≡ true)
+    (without : (k : ℕ) → c k ≡ (b k && not (eqb k i))) (back : PutBack p us starts i xs ys) where
   -- the others stay
   stays : (k : ℕ) → (k ≡ i → ⊥) → b k ≡ c k
   stays k ne = sym (without k ∙ rw (ne-eqb k i ne) (and-true (b k)))
@@ -202,14 +203,14 @@ module _ (p : Problem) (u : ℕ → ℕ → ℕ) (costs roots : List ℕ) (b c :
       and-false false = refl
 
   -- a week of its overhaul has its worth with nobody out, another the worth that it had
-  worth : (t : ℕ) → t < p .weeks → (o : Bool) → outIn p starts t i ≡ o → WeekLeast p u t (outOf p b starts t) (worthIn xs t)
-      → WeekLeast p u t (outOf p c starts t) (worthIn ys t)
+  worth : (t : ℕ) → t < p .weeks → (o : Bool) → outIn p starts t i ≡ o → WeekLeast p (priceIn us) t (outOf p b starts t) (worthIn xs t)
+      → WeekLeast p (priceIn us) t (outOf p c starts t) (worthIn ys t)
   unfolding outOf
-  worth t l true e w = subst (WeekLeast p u t (outOf p c starts t)) (sym (back .inside t l e)) (week-none p u t (outOf p c starts t) (worthIn roots t)
+  worth t l true e w = subst (WeekLeast p (priceIn us) t (outOf p c starts t)) (sym (back .inside t l e)) (week-none p (priceIn us) t (outOf p c starts t) (rootIn us t)
       (rs .each t l .least))
   worth t l false e w =
-      subst (WeekLeast p u t (outOf p c starts t)) (sym (back .outside t l e))
-      (week-more p u t (outOf p b starts t) (outOf p c starts t) (worthIn xs t) (λ k m. kept k) w)
+      subst (WeekLeast p (priceIn us) t (outOf p c starts t)) (sym (back .outside t l e))
+      (week-more p (priceIn us) t (outOf p b starts t) (outOf p c starts t) (worthIn xs t) (λ k m. kept k) w)
     where
       kept : (k : ℕ) → outOf p b starts t k ≡ true → outOf p c starts t k ≡ true
       kept k o = go (ℕ-discrete k i)
@@ -227,45 +228,45 @@ module _ (p : Problem) (u : ℕ → ℕ → ℕ) (costs roots : List ℕ) (b c :
   small t l false e w = omega (arith, back .outside t l e)
 
   -- what the weeks lose
-  weeks-lose : sumTo (p .weeks) (worthIn xs) ≤ sumTo (p .weeks) (worthIn ys) + sumTo (p .duration i) (shifted (starts i - 1) (gainIn roots xs))
+  weeks-lose : sumTo (p .weeks) (worthIn xs) ≤ sumTo (p .weeks) (worthIn ys) + sumTo (p .duration i) (shifted (starts i - 1) (gainIn us xs))
   unfolding added pick gainIn outIn
   weeks-lose =
       let one : starts i ≡ suc (starts i - 1) = omega (arith, permits-from p i (starts i) permits, fair .from-one i unit) in
-      let span = span-sum (starts i - 1) (p .duration i) (gainIn roots xs) (p .weeks) (omega (arith, permits-ends p i (starts i) permits)) in
+      let span = span-sum (starts i - 1) (p .duration i) (gainIn us xs) (p .weeks) (omega (arith, permits-ends p i (starts i) permits)) in
       let mono = sum-mono (p .weeks) (worthIn xs) (added (worthIn ys) gain) (λ t l. week t l (inSpan (starts i) (p .duration i) t) refl) in
       let sums = sum-added (p .weeks) (worthIn ys) gain in
-      let same : sumTo (p .weeks) gain ≡ sumTo (p .weeks) (pick (inSpan (suc (starts i - 1)) (p .duration i)) (gainIn roots xs))
-      = ap (λ (s : ℕ). sumTo (p .weeks) (pick (inSpan s (p .duration i)) (gainIn roots xs))) one in
+      let same : sumTo (p .weeks) gain ≡ sumTo (p .weeks) (pick (inSpan (suc (starts i - 1)) (p .duration i)) (gainIn us xs))
+      = ap (λ (s : ℕ). sumTo (p .weeks) (pick (inSpan s (p .duration i)) (gainIn us xs))) one in
       omega (arith, span, mono, sums, same)
     where
       gain : ℕ → ℕ
-      gain = pick (inSpan (starts i) (p .duration i)) (gainIn roots xs)
+      gain = pick (inSpan (starts i) (p .duration i)) (gainIn us xs)
 
       week : (t : ℕ) → t < p .weeks → (o : Bool) → inSpan (starts i) (p .duration i) t ≡ o → worthIn xs t ≤ added (worthIn ys) gain t
       week t l true e = rw e (omega (arith, back .inside t l e))
       week t l false e = omega (arith, back .outside t l e)
 
   -- what the units lose
-  units-lose : sumTo (p .units) (unitBound p u b starts (leastIn costs))
-      ≤ sumTo (p .units) (unitBound p u c starts (leastIn costs)) + excessIn costs i (starts i)
+  units-lose : sumTo (p .units) (unitBound p (priceIn us) b starts (leastIn us))
+      ≤ sumTo (p .units) (unitBound p (priceIn us) c starts (leastIn us)) + excessIn us i (starts i)
   unfolding unitBound
   units-lose =
-      let one = sum-one (p .units) i (unitBound p u c starts (leastIn costs)) (unitBound p u b starts (leastIn costs)) unit
+      let one = sum-one (p .units) i (unitBound p (priceIn us) c starts (leastIn us)) (unitBound p (priceIn us) b starts (leastIn us)) unit
       (λ k l ne. others k ne) in
       omega (arith, one, without-it, with-it (b i) refl)
     where
-      others : (k : ℕ) → (k ≡ i → ⊥) → unitBound p u c starts (leastIn costs) k ≡ unitBound p u b starts (leastIn costs) k
-      others k ne = ap (λ (x : Bool). if x (priced p u k (starts k)) (leastIn costs k)) (sym (stays k ne))
+      others : (k : ℕ) → (k ≡ i → ⊥) → unitBound p (priceIn us) c starts (leastIn us) k ≡ unitBound p (priceIn us) b starts (leastIn us) k
+      others k ne = ap (λ (x : Bool). if x (priced p (priceIn us) k (starts k)) (leastIn us k)) (sym (stays k ne))
 
-      without-it : unitBound p u c starts (leastIn costs) i ≡ leastIn costs i
+      without-it : unitBound p (priceIn us) c starts (leastIn us) i ≡ leastIn us i
       without-it = rw gone
 
-      with-it : (x : Bool) → b i ≡ x → unitBound p u b starts (leastIn costs) i ≤ leastIn costs i + excessIn costs i (starts i)
+      with-it : (x : Bool) → b i ≡ x → unitBound p (priceIn us) b starts (leastIn us) i ≤ leastIn us i + excessIn us i (starts i)
       with-it true e = rw e (omega (arith, cs .exact i (starts i) unit permits))
       with-it false e = rw e (omega arith)
 
   -- so the bound loses no more than that
-  pub bounds-dropped : Bounds p u costs b starts xs sum → Bounds p u costs c starts ys (sum - lossOf p costs roots starts xs i)
+  pub bounds-dropped : Bounds p us b starts xs sum → Bounds p us c starts ys (sum - lossOf p us starts xs i)
   unfolding lowerBound lossOf
   bounds-dropped h = record {
     worths = record {

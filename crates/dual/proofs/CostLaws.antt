@@ -8,7 +8,7 @@ use mathlib.Core.List.{List}
 use native.Mathlib.Decide.{ℕ-discrete}
 use native.Mathlib.Omega.{arith}
 use lib.Dec.{leb}
-use lib.ListN.{length, getD, set, replicate, length-set}
+use lib.ListN.{length, getD, set}
 use lib.Seq.{getD-set-same, getD-set-other}
 use borrow.Author.Tests.{leb-true, le-leb}
 use Rattle.sums.specs.Logic.{if}
@@ -16,7 +16,7 @@ use Rattle.sums.specs.Sum.{sumTo, added, turned, shifted}
 use Rattle.sums.specs.NumSet.{NumSet, pick, parts}
 use Rattle.sums.proofs.LogicLaws.{and-of, and-left, and-right}
 use Rattle.sums.proofs.SumLaws.{sum-same, sum-added}
-use Rattle.sums.proofs.LoopLaws.{sum-next, sum-ended, zeros-at}
+use Rattle.sums.proofs.LoopLaws.{sum-next, sum-ended}
 use Rattle.model.specs.declared.Layout.{Layout}
 use Rattle.model.specs.Problem.{Problem}
 use Rattle.model.specs.Domain.{permitted}
@@ -25,30 +25,16 @@ use Rattle.model.specs.Words.{problemOf}
 use Rattle.model.proofs.DomainLaws.{permits-ends}
 use Rattle.model.proofs.FileLaws.{fair}
 use Rattle.instance.specs.Filed.{Filed}
-use Rattle.instance.proofs.FiledLaws.{weeks-are, units-are}
 use Rattle.overhaul.specs.Range.{StartRange}
 use Rattle.overhaul.specs.Off.{offWeeks}
+use Rattle.overhaul.proofs.StartLaws.{range-in, range-at}
 use Rattle.overhaul.proofs.SpanLaws.{span-sum}
 use Rattle.overhaul.proofs.UpkeepLaws.{start-some, ends-within}
 use Rattle.blame.specs.Priced.{priced}
-use Rattle.relaxation.specs.Relaxed.{priceIn, Prices}
-use Rattle.dual.specs.Dual.{spanSum, leastIn, excessIn, Costs, LeastFrom}
-
--- ---- a price
-
--- the place in the table
-pub price-at : (us : List ℕ) (t i r : ℕ) → r ≡ getD us (t * 16 + i) 0 → r ≡ priceIn us t i
-unfolding priceIn
-price-at us t i r e = e
-
--- a price is small
-pub price-most : (us : List ℕ) (k r : ℕ) → Prices us → r ≡ getD us k 0 → r ≤ 4194304
-price-most us k r h e = omega (arith, h .small k)
-
--- a cost above the least
-pub excess-at : (costs : List ℕ) (i s r : ℕ) → r ≡ getD costs (i * 64 + s) 0 → r ≡ excessIn costs i s
-unfolding excessIn
-excess-at costs i s r e = e
+use Rattle.tables.specs.Tables.{TABLES, START_COSTS, ROOT_VALUES, priceIn, offIn, leastIn, excessIn, Priced}
+use Rattle.tables.proofs.TableLaws.{begins-put}
+use Rattle.dual.specs.Dual.{MOST_OVERHAUL, spanSum, LeastFrom}
+use Rattle.dual.specs.Made.{UnitAt, StartAt, CostsMade, CostsTo}
 
 -- ---- an overhaul
 
@@ -69,13 +55,15 @@ unfolding shifted turned
 inside-next ws i a k s v r = sum-next (shifted a (turned (problemOf ws .off) i)) k s v r
 
 -- all its weeks
-pub span-ended : (ws : List ℕ) (l : Layout) (g : ℕ → ℕ) (i start k d r : ℕ) → Filed ws l → i < l .units → permitted (problemOf ws) i start ≡ true
-    → d ≡ problemOf ws .duration i → k ≤ d → d ≤ k → r ≡ sumTo k (shifted (start - 1) g) → r ≡ spanSum (problemOf ws) i start g
+pub span-ended : (ws : List ℕ) (l : Layout) (g : ℕ → ℕ) (i start k d r : ℕ) → StartAt ws l i start → d ≡ problemOf ws .duration i → k ≤ d → d ≤ k → r ≡ sumTo k (shifted (start - 1) g) → r ≡ spanSum (problemOf ws) i start g
 unfolding spanSum
-span-ended ws l g i start k d r f h e is m n t =
+span-ended ws l g i start k d r at is m n t =
     let p = problemOf ws in
+    let f = at .filed in
+    let h = at .unit in
+    let e = at .permits in
     let s : start ≡ suc (start - 1) = omega (arith, start-some ws l i start f h e) in
-    let b : start - 1 + p .duration i ≤ p .weeks = omega (arith, ends-within ws l i start f h e d is, weeks-are ws l f) in
+    let b : start - 1 + p .duration i ≤ p .weeks = omega (arith, ends-within ws l i start f h e d is, f .weeks-are) in
     sum-ended (shifted (start - 1) g) k d r t m n
     ∙ ap (λ (z : ℕ). sumTo z (shifted (start - 1) g)) is
     ∙ sym (span-sum (start - 1) (p .duration i) g (p .weeks) b)
@@ -101,176 +89,207 @@ priced-shifted p u i s =
     parts-shifted (p .weeks) (inSpan s (p .duration i)) (added (turned (p .maint) i) (turned u i)) (turned (p .off) i)
 
 -- as the code adds and takes off
-pub priced-is : (ws us : List ℕ) (i s c o a q r : ℕ) → c ≡ spanSum (problemOf ws) i s (pricedWeek ws us i) → o ≡ offWeeks (problemOf ws) i
-    → a ≡ c + o → q ≡ spanSum (problemOf ws) i s (turned (problemOf ws .off) i) → r ≡ a - q → r ≡ priced (problemOf ws) (priceIn us) i s
-priced-is ws us i s c o a q r ec eo ea eq er = omega (arith, priced-shifted (problemOf ws) (priceIn us) i s)
+pub priced-is : (ws : List ℕ) (l : Layout) (us : List ℕ) (i s c o a q r : ℕ) → StartAt ws l i s → Priced (problemOf ws) us
+    → c ≡ spanSum (problemOf ws) i s (pricedWeek ws us i) → o ≡ offIn us i → a ≡ c + o → q ≡ spanSum (problemOf ws) i s (turned (problemOf ws .off) i) → r ≡ a - q → r ≡ priced (problemOf ws) (priceIn us) i s
+priced-is ws l us i s c o a q r at priced ec eo ea eq er =
+    omega (arith, priced-shifted (problemOf ws) (priceIn us) i s, priced .offs .each i (omega (arith, at .unit, at .filed .units-are)))
+
+-- no more than the weeks of the overhaul and OFF in all of them
+pub priced-small : (ws : List ℕ) (l : Layout) (us : List ℕ) (i s c o a q r : ℕ) → StartAt ws l i s → Priced (problemOf ws) us → c ≤ 231103808
+    → o ≡ offIn us i → a ≡ c + o → r ≡ a - q → r ≤ MOST_OVERHAUL
+priced-small ws l us i s c o a q r at priced few eo ea er =
+    let unit : i < problemOf ws .units = omega (arith, at .unit, at .filed .units-are) in
+    omega (arith, priced .offs .small i unit)
 
 -- ---- the least of a unit's starts
 
--- a permitted start lies in the range
-range-at : (p : Problem) (i a b s : ℕ) → StartRange p i a b → permitted p i s ≡ true → (a ≤ s) × (s ≤ b)
-range-at p i a b s g e =
-    let t : (leb a s && leb s b) ≡ true = sym (g .exact s) ∙ e in
-    (leb-true a s (and-left (leb a s) (leb s b) t), leb-true s b (and-right (leb a s) (leb s b) t))
-
--- the permitted starts of unit i below s cost at least v, and all of them lie from a to below b
-pub record LeastTo (p : Problem) (u : ℕ → ℕ → ℕ) (i a b s v : ℕ) : Type 0 where
+-- a loop over the permitted starts of unit i, from a to below b, stands at s
+pub record StartsTo (p : Problem) (i a b s : ℕ) : Type 0 where
   pub range : StartRange p i a (b - 1)
   pub some : 1 ≤ b
   pub from : a ≤ s
-  pub below : (q : ℕ) → q < s → permitted p i q ≡ true → v ≤ priced p u i q
-  pub small : v ≤ 268435456
 
--- none yet
-pub least-start : (p : Problem) (u : ℕ → ℕ → ℕ) (i a b : ℕ) → StartRange p i a b → LeastTo p u i a (b + 1) a 268435456
-least-start p u i a b g = record {
+-- at the first
+pub starts-begin : (p : Problem) (i a b : ℕ) → StartRange p i a b → StartsTo p i a (b + 1) a
+starts-begin p i a b g = record {
   range = let e : b ≡ b + 1 - 1 = omega arith in subst (StartRange p i a) e g;
   some = omega arith;
   from = omega arith;
-  below = λ q l e. absurd (omega (arith, range-at p i a b q g e .0));
-  small = omega arith;
 }
 
-module _ (p : Problem) (u : ℕ → ℕ → ℕ) (i a b s v : ℕ) (h : LeastTo p u i a b s v) where
-  -- the next is one of them
-  pub start-permitted : s < b → permitted p i s ≡ true
-  start-permitted l = h .range .exact s ∙ and-of (leb a s) (leb s (b - 1)) (le-leb a s (h .from)) (le-leb s (b - 1) (omega arith))
+module _ (p : Problem) (i a b s : ℕ) (h : StartsTo p i a b s) where
+  -- where it stands is one of them
+  pub starts-permit : s < b → permitted p i s ≡ true
+  starts-permit l = range-in p i a (b - 1) s (h .range) (h .from) (omega arith)
 
-  -- one more
-  pub least-next : (c r : ℕ) → c ≡ priced p u i s → r ≤ v → r ≤ c → LeastTo p u i a b (s + 1) r
-  least-next c r e low new = record {
-    range = h .range;
-    some = h .some;
-    from = omega (arith, h .from);
-    below = λ q l t. by q l t (ℕ-discrete q s);
-    small = omega (arith, h .small);
-  }
-    where
-      by : (q : ℕ) → q < s + 1 → permitted p i q ≡ true → Dec (q ≡ s) → r ≤ priced p u i q
-      by q l t (yes z) = rw z (omega arith)
-      by q l t (no z) = omega (arith, h .below q (omega arith) t)
+  -- at the next
+  pub starts-next : StartsTo p i a b (s + 1)
+  starts-next = record { range = h .range; some = h .some; from = omega (arith, h .from) }
 
-  -- all of them
-  pub least-ended : b ≤ s → LeastFrom p u i v
-  least-ended l = record { below = λ q t. h .below q (omega (arith, h .some, range-at p i a (b - 1) q (h .range) t .1)) t }
+  -- behind the last there is none
+  pub starts-ended : b ≤ s → (q : ℕ) → permitted p i q ≡ true → q < s
+  starts-ended l q e = omega (arith, h .some, range-at p i a (b - 1) q (h .range) e .1)
 
-  -- never more than an overhaul of 52 weeks can cost
-  pub least-most : v ≤ 268435456
-  least-most = h .small
+-- the permitted starts of unit i below s cost at least v
+pub record LeastTo (p : Problem) (u : ℕ → ℕ → ℕ) (i s v : ℕ) : Type 0 where
+  pub below : (q : ℕ) → q < s → permitted p i q ≡ true → v ≤ priced p u i q
+  pub small : v ≤ MOST_OVERHAUL
+
+-- none yet
+pub least-start : (p : Problem) (u : ℕ → ℕ → ℕ) (i a b : ℕ) → StartRange p i a b → LeastTo p u i a MOST_OVERHAUL
+least-start p u i a b g = record { below = λ q l e. absurd (omega (arith, range-at p i a b q g e .0)); small = omega arith }
+
+-- one more
+pub least-next : (p : Problem) (u : ℕ → ℕ → ℕ) (i s v c r : ℕ) → LeastTo p u i s v → c ≡ priced p u i s → r ≤ v → r ≤ c → LeastTo p u i (s + 1) r
+least-next p u i s v c r h e low new = record { below = λ q l t. by q l t (ℕ-discrete q s); small = omega (arith, h .small) }
+  where
+    by : (q : ℕ) → q < s + 1 → permitted p i q ≡ true → Dec (q ≡ s) → r ≤ priced p u i q
+    by q l t (yes z) = rw z (omega arith)
+    by q l t (no z) = omega (arith, h .below q (omega arith) t)
+
+-- all of them
+pub least-ended : (p : Problem) (u : ℕ → ℕ → ℕ) (i a b s v : ℕ) → StartsTo p i a b s → LeastTo p u i s v → b ≤ s → LeastFrom p u i v
+least-ended p u i a b s v g h l = record { below = λ q t. h .below q (starts-ended p i a b s g l q t) t }
+
+-- never more than an overhaul of 52 weeks can cost
+pub least-most : (p : Problem) (u : ℕ → ℕ → ℕ) (i s v : ℕ) → LeastTo p u i s v → v ≤ MOST_OVERHAUL
+least-most p u i s v h = h .small
+
+-- the next start of a unit
+pub least-at : (ws : List ℕ) (l : Layout) (us : List ℕ) (i a b s : ℕ) → UnitAt ws l us i → StartsTo (problemOf ws) i a b s → s < b → StartAt ws l i s
+least-at ws l us i a b s at h more = record { filed = at .filed; unit = at .unit; permits = starts-permit (problemOf ws) i a b s h more }
+
+-- it costs no less than the least
+pub least-above : (p : Problem) (u : ℕ → ℕ → ℕ) (i s c v : ℕ) → LeastFrom p u i v → permitted p i s ≡ true → c ≡ priced p u i s → v ≤ c
+least-above p u i s c v h e is = omega (arith, h .below s e)
+
+-- by so much it costs more
+pub least-rest : (p : Problem) (u : ℕ → ℕ → ℕ) (i s c v : ℕ) → LeastFrom p u i v → permitted p i s ≡ true → c ≡ priced p u i s
+    → v + (c - v) ≡ priced p u i s
+least-rest p u i s c v h e is = omega (arith, h .below s e)
 
 -- ---- a table of all units' costs
 
 -- nothing yet
-pub costs-start : (p : Problem) (u : ℕ → ℕ → ℕ) → Costs p u 0 (replicate 1024 0)
-costs-start p u = record { exact = λ i s l. absurd (omega arith); small = λ k. omega (arith, zeros-at 1024 k) }
+pub costs-start : (ws : List ℕ) (l : Layout) (us xs : List ℕ) → Filed ws l → Priced (problemOf ws) us → xs ≡ us → CostsMade ws l us 0 xs
+costs-start ws l us xs f priced same = record {
+  filed = f;
+  priced = priced;
+  begins = record { long = ap (length {A = ℕ}) same ∙ priced .long; same = λ k l. ap (λ (ys : List ℕ). getD ys k 0) same };
+  costs = record { exact = λ i s l. absurd (omega arith); small = λ i l. absurd (omega arith) };
+}
 
--- the units below i, and unit i with its least and its starts from a to below s
-pub record CostsTo (p : Problem) (u : ℕ → ℕ → ℕ) (i a b least s : ℕ) (table : List ℕ) : Type 0 where
-  pub long : length table ≡ 1024
-  pub before : Costs p u i table
-  pub range : StartRange p i a (b - 1)
-  pub some : 1 ≤ b
-  pub from : a ≤ s
-  pub low : leastIn table i ≡ least
-  pub under : LeastFrom p u i least
-  pub exact : (q : ℕ) → q < s → permitted p i q ≡ true → least + excessIn table i q ≡ priced p u i q
-
-module _ (ws : List ℕ) (l : Layout) (us : List ℕ) (i a b least : ℕ) (f : Filed ws l) (h : i < l .units) where
+module _ (ws : List ℕ) (l : Layout) (us : List ℕ) (i : ℕ) (f : Filed ws l) (unit : i < l .units) where
   abbrev p : Problem
   p = problemOf ws
+
+  -- there are 16 units at most
+  in-table : i < 16
+  in-table = omega (arith, unit, f .units-most)
 
   -- a permitted start is one of 52
   start-few : (k q : ℕ) → k < l .units → permitted p k q ≡ true → q ≤ 52
   start-few k q m e =
-      omega (arith, permits-ends p k q e, fair ws (f .passed) .some-weeks k (rw (units-are ws l f) m), weeks-are ws l f, f .weeks-most)
+      omega (arith, permits-ends p k q e, fair ws (f .passed) .some-weeks k (omega (arith, f .units-are)), f .weeks-are, f .weeks-most)
 
   -- what is written from unit i's place on leaves the units below it
-  keeps : (table : List ℕ) (at v : ℕ) → i * 64 ≤ at → at < length table → v ≤ 268435456 → Costs p (priceIn us) i table
-      → Costs p (priceIn us) i (set table at v)
+  keeps : (table : List ℕ) (place v : ℕ) → START_COSTS + i * 64 ≤ place → CostsMade ws l us i table → CostsMade ws l us i (set table place v)
   unfolding leastIn excessIn
-  keeps table at v low within small c = record {
-    exact = λ k q m e.
-        let few = start-few k q (omega arith) e in
-        let one : getD (set table at v) (k * 64) 0 ≡ getD table (k * 64) 0 = getD-set-other table at (k * 64) v 0 (λ z. omega arith) in
-        let two : getD (set table at v) (k * 64 + q) 0 ≡ getD table (k * 64 + q) 0 = getD-set-other table at (k * 64 + q) v 0 (λ z. omega arith) in
-        omega (arith, one, two, c .exact k q m e);
-    small = λ k. by k (ℕ-discrete k at);
+  keeps table place v low made = record {
+    filed = made .filed;
+    priced = made .priced;
+    begins = begins-put START_COSTS us table place v (made .begins) (omega arith);
+    costs = record {
+      exact = λ k q m e.
+          let few = start-few k q (omega (arith, unit)) e in
+          let one = other (START_COSTS + k * 64) (omega arith) in
+          let two = other (START_COSTS + k * 64 + q) (omega arith) in
+          omega (arith, one, two, made .costs .exact k q m e);
+      small = λ k m. omega (arith, other (START_COSTS + k * 64) (omega arith), made .costs .small k m);
+    };
   }
     where
-      by : (k : ℕ) → Dec (k ≡ at) → getD (set table at v) k 0 ≤ 268435456
-      by k (yes e) = rw e (omega (arith, getD-set-same table at v 0 within))
-      by k (no e) = omega (arith, getD-set-other table at k v 0 e, c .small k)
+      other : (n : ℕ) → n < START_COSTS + i * 64 → getD (set table place v) n 0 ≡ getD table n 0
+      other n m = getD-set-other table place n v 0 (λ z. omega arith)
 
-  -- its least is written
-  pub put-least : (table : List ℕ) → length table ≡ 1024 → Costs p (priceIn us) i table → StartRange p i a b → LeastFrom p (priceIn us) i least
-      → least ≤ 268435456 → CostsTo p (priceIn us) i a (b + 1) least a (set table (i * 64) least)
-  unfolding leastIn
-  put-least table long c g under small = record {
-    long = length-set table (i * 64) least ∙ long;
-    before = keeps table (i * 64) least (omega arith) (omega (arith, f .units-most)) small c;
-    range = let e : b ≡ b + 1 - 1 = omega arith in subst (StartRange p i a) e g;
-    some = omega arith;
-    from = omega arith;
-    low = getD-set-same table (i * 64) least 0 (omega (arith, f .units-most));
-    under = under;
-    exact = λ q m e. absurd (omega (arith, range-at p i a b q g e .0));
+-- its least is written
+pub put-least : (ws : List ℕ) (l : Layout) (us table : List ℕ) (i a b least : ℕ) → CostsMade ws l us i table → i < l .units
+    → StartRange (problemOf ws) i a b → LeastFrom (problemOf ws) (priceIn us) i least → least ≤ MOST_OVERHAUL
+    → CostsTo ws l us i least a (set table (START_COSTS + i * 64) least)
+unfolding leastIn
+put-least ws l us table i a b least made unit g under small =
+    let f = made .filed in
+    record {
+      made = keeps ws l us i f unit table (START_COSTS + i * 64) least (omega arith) made;
+      unit = unit;
+      low = getD-set-same table (START_COSTS + i * 64) least 0 (omega (arith, in-table ws l us i f unit, made .begins .long));
+      few = small;
+      under = under;
+      exact = λ q m e. absurd (omega (arith, range-at (problemOf ws) i a b q g e .0));
+    }
+
+module _ (ws : List ℕ) (l : Layout) (us : List ℕ) (i least s : ℕ) (table : List ℕ) (t : CostsTo ws l us i least s table) where
+  f : Filed ws l
+  f = t .made .filed
+
+  -- the next start
+  pub put-at : permitted (problemOf ws) i s ≡ true → StartAt ws l i s
+  put-at e = record { filed = f; unit = t .unit; permits = e }
+
+  -- its place lies in the table
+  put-within : permitted (problemOf ws) i s ≡ true → START_COSTS + i * 64 + s < TABLES
+  put-within e = omega (arith, start-few ws l us i f (t .unit) i s (t .unit) e, in-table ws l us i f (t .unit))
+
+  -- the least is one
+  pub put-under : LeastFrom (problemOf ws) (priceIn us) i least
+  put-under = t .under
+
+  -- what it costs more is written
+  pub put-next : (v : ℕ) → permitted (problemOf ws) i s ≡ true → least + v ≡ priced (problemOf ws) (priceIn us) i s
+      → CostsTo ws l us i least (s + 1) (set table (START_COSTS + i * 64 + s) v)
+  unfolding leastIn excessIn
+  put-next v is e = record {
+    made = keeps ws l us i f (t .unit) table (START_COSTS + i * 64 + s) v (omega arith) (t .made);
+    unit = t .unit;
+    low = getD-set-other table (START_COSTS + i * 64 + s) (START_COSTS + i * 64) v 0 (λ z. omega (arith, start-one)) ∙ t .low;
+    few = t .few;
+    under = t .under;
+    exact = λ q k g. by q k g (ℕ-discrete q s);
   }
+    where
+      start-one : 1 ≤ s
+      start-one = start-some ws l i s f (t .unit) is
 
-  module _ (s : ℕ) (table : List ℕ) (t : CostsTo p (priceIn us) i a b least s table) where
-    -- the next start is permitted
-    pub put-permitted : s < b → permitted p i s ≡ true
-    put-permitted m = t .range .exact s ∙ and-of (leb a s) (leb s (b - 1)) (le-leb a s (t .from)) (le-leb s (b - 1) (omega arith))
+      here : getD (set table (START_COSTS + i * 64 + s) v) (START_COSTS + i * 64 + s) 0 ≡ v
+      here = getD-set-same table (START_COSTS + i * 64 + s) v 0 (omega (arith, t .made .begins .long, put-within is))
 
-    -- and its place lies in the table
-    pub put-within : s < b → i * 64 + s < 1024
-    put-within m = omega (arith, start-few i s h (put-permitted m), f .units-most)
+      by : (q : ℕ) → q < s + 1 → permitted (problemOf ws) i q ≡ true → Dec (q ≡ s)
+          → least + getD (set table (START_COSTS + i * 64 + s) v) (START_COSTS + i * 64 + q) 0 ≡ priced (problemOf ws) (priceIn us) i q
+      by q k g (yes z) = rw z (omega (arith, here))
+      by q k g (no z) =
+          let o = getD-set-other table (START_COSTS + i * 64 + s) (START_COSTS + i * 64 + q) v 0 (λ w. z (omega arith)) in
+          omega (arith, o, t .exact q (omega arith) g)
 
-    -- no start costs less than the least
-    pub put-above : (c : ℕ) → s < b → c ≡ priced p (priceIn us) i s → least ≤ c
-    put-above c m e = omega (arith, t .under .below s (put-permitted m))
+  -- all its starts
+  pub put-ended : (a b : ℕ) → StartsTo (problemOf ws) i a b s → b ≤ s → CostsMade ws l us (i + 1) table
+  put-ended a b g m = record {
+    filed = f;
+    priced = t .made .priced;
+    begins = t .made .begins;
+    costs = record { exact = λ k q n e. by k q n e (ℕ-discrete k i); small = λ k n. least-few k n (ℕ-discrete k i) };
+  }
+    where
+      by : (k q : ℕ) → k < i + 1 → permitted (problemOf ws) k q ≡ true → Dec (k ≡ i)
+          → leastIn table k + excessIn table k q ≡ priced (problemOf ws) (priceIn us) k q
+      by k q n e (yes z) =
+          let own : permitted (problemOf ws) i q ≡ true = subst (λ (x : ℕ). permitted (problemOf ws) x q ≡ true) z e in
+          rw z (omega (arith, t .low, t .exact q (starts-ended (problemOf ws) i a b s g m q own) own))
+      by k q n e (no z) = t .made .costs .exact k q (omega arith) e
 
-    -- what it costs more is written
-    pub put-next : (c v : ℕ) → s < b → c ≡ priced p (priceIn us) i s → c ≤ 268435456 → v ≡ c - least
-        → CostsTo p (priceIn us) i a b least (s + 1) (set table (i * 64 + s) v)
-    unfolding leastIn excessIn
-    put-next c v m e small ev = record {
-      long = length-set table (i * 64 + s) v ∙ t .long;
-      before = keeps table (i * 64 + s) v (omega arith) (omega (arith, t .long, put-within m)) (omega arith) (t .before);
-      range = t .range;
-      some = t .some;
-      from = omega (arith, t .from);
-      low = getD-set-other table (i * 64 + s) (i * 64) v 0 (λ z. omega (arith, start-one)) ∙ t .low;
-      under = t .under;
-      exact = λ q k g. by q k g (ℕ-discrete q s);
-    }
-      where
-        start-one : 1 ≤ s
-        start-one = start-some ws l i s f h (put-permitted m)
-
-        here : getD (set table (i * 64 + s) v) (i * 64 + s) 0 ≡ v
-        here = getD-set-same table (i * 64 + s) v 0 (omega (arith, t .long, put-within m))
-
-        by : (q : ℕ) → q < s + 1 → permitted p i q ≡ true → Dec (q ≡ s)
-            → least + getD (set table (i * 64 + s) v) (i * 64 + q) 0 ≡ priced p (priceIn us) i q
-        by q k g (yes z) = rw z (omega (arith, here, put-above c m e))
-        by q k g (no z) =
-            let o : getD (set table (i * 64 + s) v) (i * 64 + q) 0 ≡ getD table (i * 64 + q) 0
-            = getD-set-other table (i * 64 + s) (i * 64 + q) v 0 (λ w. z (omega arith)) in
-            omega (arith, o, t .exact q (omega arith) g)
-
-    -- all its starts
-    pub put-ended : b ≤ s → Costs p (priceIn us) (i + 1) table
-    put-ended m = record {
-      exact = λ k q n e. by k q n e (ℕ-discrete k i);
-      small = t .before .small;
-    }
-      where
-        by : (k q : ℕ) → k < i + 1 → permitted p k q ≡ true → Dec (k ≡ i) → leastIn table k + excessIn table k q ≡ priced p (priceIn us) k q
-        by k q n e (yes z) =
-            let g : permitted p i q ≡ true = subst (λ (x : ℕ). permitted p x q ≡ true) z e in
-            rw z (omega (arith, t .low, t .exact q (omega (arith, t .some, range-at p i a (b - 1) q (t .range) g .1)) g))
-        by k q n e (no z) = t .before .exact k q (omega arith) e
+      least-few : (k : ℕ) → k < i + 1 → Dec (k ≡ i) → leastIn table k ≤ MOST_OVERHAUL
+      least-few k n (yes z) = rw z (omega (arith, t .low, t .few))
+      least-few k n (no z) = t .made .costs .small k (omega arith)
 
 -- all units
-pub costs-ended : (p : Problem) (u : ℕ → ℕ → ℕ) (table : List ℕ) (i n : ℕ) → Costs p u i table → i ≤ n → n ≤ i → Costs p u n table
-costs-ended p u table i n c a b = let e : i ≡ n = omega arith in subst (λ (k : ℕ). Costs p u k table) e c
+pub costs-ended : (ws : List ℕ) (l : Layout) (us xs : List ℕ) (i n : ℕ) → CostsMade ws l us i xs → i ≤ n → n ≤ i → CostsMade ws l us n xs
+costs-ended ws l us xs i n made a b = let e : i ≡ n = omega arith in rw e at made

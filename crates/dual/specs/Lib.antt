@@ -1,2 +1,6 @@
--- what is known before a walk at prices, and the lower bound of what is placed
+-- the table with all its parts, and the lower bound of the starts of some units
 pub mod Dual
+-- how the table comes to its parts
+pub mod Made
+-- who is to blame
+pub mod Blame

@@ -11,7 +11,7 @@ pub fn file_end(bytes: &[u8]) -> usize
     let n = bytes.len() / 4;
     for k in 0..n {
         let word = decoder::word_from(bytes, k * 4);
-        if instance::kind_of(word) == 15 {
+        if words::kind_of(word) == 15 {
             return k * 4 + 4;
         }
     }

@@ -13,7 +13,6 @@ use borrow.Author.Tests.{lt-ltb, le-ltb}
 use Rattle.model.specs.Ranges.{Ranged}
 use Rattle.model.proofs.FileLaws.{ranged}
 use Rattle.instance.specs.Filed.{Filed}
-use Rattle.instance.proofs.FiledLaws.{weeks-are, units-are}
 
 module _ (ws : List ℕ) (l : Layout) (f : Filed ws l) where
   in-range : Ranged (problemOf ws)
@@ -21,10 +20,10 @@ module _ (ws : List ℕ) (l : Layout) (f : Filed ws l) where
 
   -- a week or a unit of the layout is one of the problem
   week : (t : ℕ) → t < l .weeks → t < problemOf ws .weeks
-  week t h = rw (weeks-are ws l f) h
+  week t h = rw (f .weeks-are) h
 
   unit : (i : ℕ) → i < l .units → i < problemOf ws .units
-  unit i h = rw (units-are ws l f) h
+  unit i h = rw (f .units-are) h
 
   -- ---- the figure
 
@@ -108,19 +107,19 @@ module _ (ws : List ℕ) (l : Layout) (f : Filed ws l) where
     earliest-some e = omega (arith, earliest-at r i e, in-range .earliest-some i (unit i h))
 
     pub earliest-most : r ≡ valueOf (getD ws (l .triples + 3 * i + 1) 0) → r / 64 ≤ l .weeks
-    earliest-most e = omega (arith, earliest-at r i e, in-range .window i (unit i h), in-range .latest-most i (unit i h), weeks-are ws l f)
+    earliest-most e = omega (arith, earliest-at r i e, in-range .window i (unit i h), in-range .latest-most i (unit i h))
 
     pub latest-some : r ≡ valueOf (getD ws (l .triples + 3 * i + 1) 0) → 1 ≤ r % 64
     latest-some e = omega (arith, latest-at r i e, in-range .earliest-some i (unit i h), in-range .window i (unit i h))
 
     pub latest-most : r ≡ valueOf (getD ws (l .triples + 3 * i + 1) 0) → r % 64 ≤ l .weeks
-    latest-most e = omega (arith, latest-at r i e, in-range .latest-most i (unit i h), weeks-are ws l f)
+    latest-most e = omega (arith, latest-at r i e, in-range .latest-most i (unit i h))
 
     pub duration-some : r ≡ valueOf (getD ws (l .triples + 3 * i + 2) 0) → 1 ≤ r
     duration-some e = omega (arith, duration-at r i e, in-range .duration-some i (unit i h))
 
     pub duration-most : r ≡ valueOf (getD ws (l .triples + 3 * i + 2) 0) → r ≤ l .weeks
-    duration-most e = omega (arith, duration-at r i e, in-range .duration-most i (unit i h), weeks-are ws l f)
+    duration-most e = omega (arith, duration-at r i e, in-range .duration-most i (unit i h))
 
   module _ (r q t i : ℕ) (ht : t < l .weeks) (hi : i < l .units) (at : q ≡ t * l .units + i) where
     pub maint-most : r ≡ valueOf (getD ws (l .maints + q) 0) → r ≤ 250000
@@ -134,7 +133,7 @@ module _ (ws : List ℕ) (l : Layout) (f : Filed ws l) where
 
   module _ (r n : ℕ) (h : n < problemOf ws .pairs) (e : r ≡ valueAt ws (l .pairs + n)) where
     pub pair-a-most : r / 32 - 1 < l .units
-    pair-a-most = omega (arith, pair-a-at r n e, in-range .pair-order n h, in-range .pair-units n h, units-are ws l f)
+    pair-a-most = omega (arith, pair-a-at r n e, in-range .pair-order n h, in-range .pair-units n h)
 
     pub pair-b-most : r % 32 - 1 < l .units
-    pair-b-most = omega (arith, pair-b-at r n e, in-range .pair-units n h, units-are ws l f)
+    pair-b-most = omega (arith, pair-b-at r n e, in-range .pair-units n h)

@@ -37,6 +37,8 @@ module _ (ws : List ℕ) (e : readOf ws ≡ accepted) where
       record {
         passed = e;
         laid = refl;
+        weeks-are = w;
+        units-are = u;
         weeks-some = omega (arith, r .weeks-some);
         weeks-most = wm;
         units-some = omega (arith, r .units-some);
@@ -53,12 +55,12 @@ filed ws l e laid = subst⁻¹ (Filed ws) laid (filed-laid ws e)
 
 -- the problem has as many weeks as the layout
 pub weeks-are : (ws : List ℕ) (l : Layout) → Filed ws l → problemOf ws .weeks ≡ l .weeks
-weeks-are ws l f = rw (f .laid) (weeks-laid ws)
+weeks-are ws l f = f .weeks-are
 
 -- and as many units
 pub units-are : (ws : List ℕ) (l : Layout) → Filed ws l → problemOf ws .units ≡ l .units
-units-are ws l f = rw (f .laid) (units-laid ws)
+units-are ws l f = f .units-are
 
 -- so a grid has as many cells
 pub cells-are : (ws : List ℕ) (l : Layout) → Filed ws l → problemOf ws .weeks * problemOf ws .units ≡ l .weeks * l .units
-cells-are ws l f = ap₂ (λ (w u : ℕ). w * u) (weeks-are ws l f) (units-are ws l f)
+cells-are ws l f = ap₂ (λ (w u : ℕ). w * u) (f .weeks-are) (f .units-are)

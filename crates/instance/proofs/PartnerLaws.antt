@@ -6,7 +6,7 @@ use mathlib.Core.Bool.{Bool, false, _&&_, _||_, and-true, and-false, or-false, o
 use native.Mathlib.Decide.{ℕ-discrete}
 use lib.Dec.{eqb}
 use borrow.Author.Tests.{eq-eqb, ne-eqb}
-use Rattle.sums.specs.NumSet.{has}
+use Rattle.sums.specs.NumSet.{has, with}
 use Rattle.sums.proofs.LoopLaws.{Gathered, gathered-ended}
 use Rattle.model.specs.Problem.{Problem}
 use Rattle.model.specs.Pairs.{joins, apart}
@@ -41,12 +41,12 @@ none-joined a b i j n m = simp (ne-eqb a i n, ne-eqb b i m, and-false)
 
 module _ (p : Problem) (i n a b found : ℕ) (ea : a ≡ p .pairA n) (eb : b ≡ p .pairB n) where
   -- its second unit, where unit i is the first
-  pub added-second : (r : ℕ) → a ≡ i → ((k : ℕ) → has r k ≡ (has found k || eqb k b)) → (j : ℕ) → has r j ≡ (has found j || joins p i j n)
+  pub added-second : (r : ℕ) → a ≡ i → ((k : ℕ) → has r k ≡ with (has found) b k) → (j : ℕ) → has r j ≡ (has found j || joins p i j n)
   unfolding joins
   added-second r e h j = rw (← ea, ← eb, ← e) (h j ∙ ap (λ (t : Bool). has found j || t) (sym (first-joined a b j)))
 
   -- its first unit, where unit i is the second alone
-  pub added-first : (r : ℕ) → (a ≡ i → ⊥) → b ≡ i → ((k : ℕ) → has r k ≡ (has found k || eqb k a)) → (j : ℕ) → has r j ≡ (has found j || joins p i j n)
+  pub added-first : (r : ℕ) → (a ≡ i → ⊥) → b ≡ i → ((k : ℕ) → has r k ≡ with (has found) a k) → (j : ℕ) → has r j ≡ (has found j || joins p i j n)
   unfolding joins
   added-first r d e h j =
       rw (← ea, ← eb, ← e) (h j ∙ ap (λ (t : Bool). has found j || t) (sym (second-joined a b j (λ q. d (q ∙ e)))))

@@ -10,7 +10,7 @@ use lib.ListN.{length}
 use mir.Syntax.{w64}
 use mir.Val.{Fits}
 use Rattle.model.specs.declared.Layout.{Layout}
-use Rattle.model.specs.Words.{valueAt, layoutOf, problemOf}
+use Rattle.model.specs.Words.{VALUES, valueAt, layoutOf, problemOf}
 use Rattle.model.proofs.FileLaws.{pair-word}
 use Rattle.instance.specs.Filed.{Filed}
 
@@ -18,8 +18,15 @@ use Rattle.instance.specs.Filed.{Filed}
 pub cell-below : (w u t i : ℕ) → t < w → i < u → t * u + i < w * u
 cell-below w u t i ht hi = digits-lt ht hi
 
+-- in a table of a file no product or sum on the way to it wraps
+pub cell-fits : (w u t i : ℕ) → w * u ≤ 832 → t < w → i < u → t * u + i < 18446744073709551616
+cell-fits w u t i few ht hi = omega (arith, cell-below w u t i ht hi)
+
+pub row-fits : (w u t i : ℕ) → w * u ≤ 832 → t < w → i < u → t * u < 18446744073709551616
+row-fits w u t i few ht hi = omega (arith, cell-below w u t i ht hi)
+
 -- a table of as many weeks and units as words can say has fewer than 2 ^ 57 cells
-pub table-below : (w u : ℕ) → w < 268435456 → u < 268435456 → w * u < 2 ^ 57
+pub table-below : (w u : ℕ) → w < VALUES → u < VALUES → w * u < 2 ^ 57
 table-below w u hw hu = omega (arith, mul-le-mul (le-of-lt hw) (le-of-lt hu))
 
 -- pair n stands before the end word

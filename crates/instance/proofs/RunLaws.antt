@@ -11,15 +11,14 @@ use Rattle.model.specs.Words.{problemOf}
 use Rattle.model.specs.Rules.{output}
 use Rattle.model.specs.Commitment.{offCost}
 use Rattle.instance.specs.Filed.{Filed}
-use Rattle.instance.proofs.FiledLaws.{units-are}
 
 module _ (ws : List ℕ) (l : Layout) (t k a : ℕ) (f : Filed ws l) (h : k ≤ l .units) (g : l .units ≤ k) where
   -- what any set of units gives
   pub output-ended : (set : NumSet) → a ≡ sumTo k (pick set (problemOf ws .capacity t)) → a ≡ output (problemOf ws) t set
   unfolding output
-  output-ended set e = rw (units-are ws l f) (sum-ended (pick set (problemOf ws .capacity t)) k (l .units) a e h g)
+  output-ended set e = rw (f .units-are) (sum-ended (pick set (problemOf ws .capacity t)) k (l .units) a e h g)
 
   -- what any set of units would cost OFF
   pub off-ended : (set : NumSet) → a ≡ sumTo k (pick set (problemOf ws .off t)) → a ≡ offCost (problemOf ws) t set
   unfolding offCost
-  off-ended set e = rw (units-are ws l f) (sum-ended (pick set (problemOf ws .off t)) k (l .units) a e h g)
+  off-ended set e = rw (f .units-are) (sum-ended (pick set (problemOf ws .off t)) k (l .units) a e h g)

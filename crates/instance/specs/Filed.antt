@@ -5,7 +5,7 @@ use mathlib.Core.Path.{_≡_}
 use mathlib.Core.List.{List}
 use lib.ListN.{length}
 use Rattle.model.specs.declared.Layout.{Layout}
-use Rattle.model.specs.Words.{Laid, layoutOf}
+use Rattle.model.specs.Words.{Laid, layoutOf, problemOf}
 use Rattle.model.specs.Verdict.{accepted}
 use Rattle.model.specs.Reading.{readOf}
 
@@ -13,6 +13,9 @@ use Rattle.model.specs.Reading.{readOf}
 pub record Filed (ws : List ℕ) (l : Layout) : Type 0 where
   pub passed : readOf ws ≡ accepted
   pub laid : l ≡ layoutOf ws
+  -- the problem has the layout's weeks and units
+  pub weeks-are : problemOf ws .weeks ≡ l .weeks
+  pub units-are : problemOf ws .units ≡ l .units
   pub weeks-some : 1 ≤ l .weeks
   pub weeks-most : l .weeks ≤ 52
   pub units-some : 1 ≤ l .units

@@ -6,7 +6,7 @@ ghost use mathlib.Core.Bool.{_||_};
 ghost use Prim.Native.Nat.{ℕ, _+_, _-_, _*_, _<_, _≤_, _^_};
 ghost use lib.ListN.{length};
 ghost use Rattle.sums.specs.NumSet.{has, pick};
-ghost use Rattle.model.specs.Words.{kindOf, valueOf, kindAt, valueAt, layoutFor, offWords, layoutOf, problemOf};
+ghost use Rattle.model.specs.Words.{VALUES, kindAt, valueAt, layoutFor, offWords, layoutOf, problemOf};
 ghost use Rattle.model.specs.Rules.{output};
 ghost use Rattle.model.specs.Commitment.{offCost};
 ghost use Rattle.model.specs.Pairs.{joins, apart};
@@ -59,43 +59,12 @@ impl Kilo {
     }
 }
 
-// A word as a number that places are counted in.
-pub fn wide(word: u32) -> usize
-    ensures { λ r. ⌜ r ≡ word ⌝ }
-{
-    word as usize
-}
-
-// The top 4 bits.
-pub fn kind_of(word: u32) -> usize
-    ensures { λ r. ⌜ (r ≡ kindOf word) × (r < 16) ⌝ }
-{
-    wide(word) / 268435456
-}
-
-// The low 28 bits.
-pub fn value_of(word: u32) -> usize
-    ensures { λ r. ⌜ (r ≡ valueOf word) × (r < 268435456) ⌝ }
-{
-    wide(word) % 268435456
-}
-
-// The value of the word at a place, 0 past the end.
-pub fn value_at(words: &[u32], q: usize) -> usize
-    ensures { λ r. ⌜ (r ≡ valueAt (now (words .entry)) q) × (r < 268435456) ⌝ }
-{
-    if q < words.len() {
-        return value_of(words[q]);
-    }
-    0
-}
-
 // The kind of the word at a place, 0 past the end.
 fn kind_at(words: &[u32], q: usize) -> usize
     ensures { λ r. ⌜ r ≡ kindAt (now (words .entry)) q ⌝ }
 {
     if q < words.len() {
-        return kind_of(words[q]);
+        return words::kind_of(words[q]);
     }
     0
 }
@@ -112,7 +81,7 @@ fn off_words(words: &[u32], q: usize, cells: usize) -> usize
 
 // The layout of w weeks and u units, with n OFF costs.
 fn layout_for(w: usize, u: usize, n: usize) -> Layout
-    requires { ⌜ (w < 268435456) × (u < 268435456) × (n < 2 ^ 57) ⌝ }
+    requires { ⌜ (w < VALUES) × (u < VALUES) × (n < 2 ^ 57) ⌝ }
     ensures { λ r. ⌜ r ≡ layoutFor w u n ⌝ }
 {
     let triples = 3 + w;
@@ -134,7 +103,7 @@ fn layout_for(w: usize, u: usize, n: usize) -> Layout
 
 // The number of a table's cells.
 fn cells_of(w: usize, u: usize) -> usize
-    requires { ⌜ (w < 268435456) × (u < 268435456) ⌝ }
+    requires { ⌜ (w < VALUES) × (u < VALUES) ⌝ }
     ensures { λ r. ⌜ (r ≡ w * u) × (r < 2 ^ 57) ⌝ }
 {
     w * u
@@ -144,8 +113,8 @@ fn cells_of(w: usize, u: usize) -> usize
 pub fn layout_of(words: &[u32]) -> Layout
     ensures { λ r. ⌜ r ≡ layoutOf (now (words .entry)) ⌝ }
 {
-    let w = value_at(words, 0);
-    let u = value_at(words, 1);
+    let w = words::value_at(words, 0);
+    let u = words::value_at(words, 1);
     let bare = layout_for(w, u, 0);
     let n = off_words(words, bare.offs, cells_of(w, u));
     layout_for(w, u, n)
@@ -156,7 +125,7 @@ pub fn crews(words: &[u32], l: Layout) -> usize
     requires { ⌜ Filed (now words) l ⌝ }
     ensures { λ r. ⌜ (r ≡ problemOf (now (words .entry)) .crews) × (1 ≤ r) × (r ≤ 16) ⌝ }
 {
-    value_of(words[2])
+    words::value_of(words[2])
 }
 
 // D: what week t wants.
@@ -165,7 +134,7 @@ pub fn demand(words: &[u32], l: Layout, t: usize) -> Kilo
     requires { ⌜ t < l .weeks ⌝ }
     ensures { λ r. ⌜ (r .0 ≡ problemOf (now (words .entry)) .demand t) × (r .0 ≤ 16000000) ⌝ }
 {
-    Kilo(value_of(words[3 + t]) as u64)
+    Kilo(words::value_of(words[3 + t]) as u64)
 }
 
 // k: what unit i gives in week t; a file has one figure for all weeks, so t is not read.
@@ -175,7 +144,7 @@ pub fn capacity(words: &[u32], l: Layout, t: usize, i: usize) -> Kilo
     ensures { λ r. ⌜ (r .0 ≡ problemOf (now (words .entry)) .capacity t i) × (r .0 ≤ 1000000) ⌝ }
 {
     let q = l.triples + 3 * i;
-    Kilo(value_of(words[q]) as u64)
+    Kilo(words::value_of(words[q]) as u64)
 }
 
 // e: the earliest start of unit i, from 1.
@@ -185,7 +154,7 @@ pub fn earliest(words: &[u32], l: Layout, i: usize) -> usize
     ensures { λ r. ⌜ (r ≡ problemOf (now (words .entry)) .earliest i) × (1 ≤ r) × (r ≤ l .weeks) ⌝ }
 {
     let q = l.triples + 3 * i + 1;
-    value_of(words[q]) / 64
+    words::value_of(words[q]) / 64
 }
 
 // l: its latest start.
@@ -195,7 +164,7 @@ pub fn latest(words: &[u32], l: Layout, i: usize) -> usize
     ensures { λ r. ⌜ (r ≡ problemOf (now (words .entry)) .latest i) × (1 ≤ r) × (r ≤ l .weeks) ⌝ }
 {
     let q = l.triples + 3 * i + 1;
-    value_of(words[q]) % 64
+    words::value_of(words[q]) % 64
 }
 
 // d: the weeks that its overhaul takes.
@@ -205,7 +174,7 @@ pub fn duration(words: &[u32], l: Layout, i: usize) -> usize
     ensures { λ r. ⌜ (r ≡ problemOf (now (words .entry)) .duration i) × (1 ≤ r) × (r ≤ l .weeks) ⌝ }
 {
     let q = l.triples + 3 * i + 2;
-    value_of(words[q])
+    words::value_of(words[q])
 }
 
 // The place of week t and unit i in a table of costs.
@@ -224,7 +193,7 @@ pub fn maint_cost(words: &[u32], l: Layout, t: usize, i: usize) -> Euro
     ensures { λ r. ⌜ (r .0 ≡ problemOf (now (words .entry)) .maint t i) × (r .0 ≤ 250000) ⌝ }
 {
     let q = l.maints + cell_place(l, t, i);
-    Euro(value_of(words[q]) as u64)
+    Euro(words::value_of(words[q]) as u64)
 }
 
 // c: what running unit i costs in week t.
@@ -234,7 +203,7 @@ pub fn running_cost(words: &[u32], l: Layout, t: usize, i: usize) -> Euro
     ensures { λ r. ⌜ (r .0 ≡ problemOf (now (words .entry)) .running t i) × (r .0 ≤ 250000) ⌝ }
 {
     let q = l.runnings + cell_place(l, t, i);
-    Euro(value_of(words[q]) as u64)
+    Euro(words::value_of(words[q]) as u64)
 }
 
 // What keeping unit i warm costs where it is OFF in week t: 0 where the file has no OFF costs.
@@ -247,7 +216,7 @@ pub fn off_cost(words: &[u32], l: Layout, t: usize, i: usize) -> Euro
         return Euro(0);
     }
     let q = l.offs + cell_place(l, t, i);
-    Euro(value_of(words[q]) as u64)
+    Euro(words::value_of(words[q]) as u64)
 }
 
 // What unit i adds to the output of a run in week t.
@@ -358,7 +327,7 @@ fn pair_value(words: &[u32], l: Layout, n: usize) -> usize
     ensures { λ r. ⌜ r ≡ valueAt (now (words .entry)) (l .pairs + n) ⌝ }
 {
     let q = l.pairs + n;
-    value_of(words[q])
+    words::value_of(words[q])
 }
 
 // The lower unit of pair n.

@@ -7,6 +7,7 @@ use native.Mathlib.Omega.{arith}
 use lib.ListN.{length}
 use Rattle.model.specs.Program.{denied, planned}
 use Rattle.model.specs.Lines.{linesText, refusalText, printed}
+use Rattle.report.specs.Lengths.{LINE, TEXT}
 use Rattle.report.specs.Put.{Put, Listed}
 use Rattle.report.proofs.PutLaws.{put-written}
 use Rattle.intake.specs.declared.Planned.{Planned}
@@ -14,7 +15,7 @@ use Rattle.intake.specs.declared.Planned.the-variants.{Denied, Answered}
 use Rattle.intake.specs.Answers.{plannedOf, SizedBy, Sized}
 use Rattle.intake.specs.Buffers.{RanInput, ShownInput}
 
-module _ (bs a₀ t₀ s₀ a t s d text : List ℕ) (r : ℕ) (room : 65536 ≤ length d) (same : length text ≡ length d)
+module _ (bs a₀ t₀ s₀ a t s d text : List ℕ) (r : ℕ) (room : TEXT ≤ length d) (same : length text ≡ length d)
     (told : Planned) (ran : RanInput (plannedOf told) bs a₀ t₀ s₀ a t s) where
   -- a refusal's line
   pub text-denied : (number place : ℕ) → told ≡ Denied number place → Put d text 0 r 50 (refusalText number place)
@@ -30,15 +31,15 @@ module _ (bs a₀ t₀ s₀ a t s d text : List ℕ) (r : ℕ) (room : 65536 ≤
 
   -- the lines of the asks
   pub text-lines : (words asks units weeks : ℕ) → Sized words told → told ≡ Answered asks units weeks
-      → Put d text 0 r (1831 * asks) (linesText a asks units weeks) → ShownInput bs a₀ t₀ s₀ a t s d text r
+      → Put d text 0 r (LINE * asks) (linesText a asks units weeks) → ShownInput bs a₀ t₀ s₀ a t s d text r
   unfolding printed
   text-lines words asks units weeks sized e h =
       let l : Listed words asks units weeks = subst (SizedBy words) e (sized .by) in
-      let fits : 1831 * asks ≤ length d = omega (arith, l .few) in
+      let fits : LINE * asks ≤ length d = omega (arith, l .few) in
       record {
         told = planned asks units weeks;
         ran = subst (λ (x : Planned). RanInput (plannedOf x) bs a₀ t₀ s₀ a t s) e ran;
-        shown = put-written d text r (1831 * asks) (linesText a asks units weeks) h fits same;
+        shown = put-written d text r (LINE * asks) (linesText a asks units weeks) h fits same;
       }
 
 -- the blocks of the asks are there

@@ -5,6 +5,7 @@ use decoder::Verdict;
 ghost use Prim.Native.Nat.{_≤_};
 ghost use lib.ListN.{length, take, drop};
 ghost use Rattle.model.specs.Lines.{PlanPrinted};
+ghost use Rattle.report.specs.Lengths.{TEXT};
 ghost use Rattle.intake.specs.Answers.{plannedOf, RanFile, Sized};
 ghost use Rattle.intake.specs.Buffers.{RanInput, ShownInput};
 
@@ -75,7 +76,7 @@ fn plan_input(bytes: &[u8], answers: &mut [u32], table: &mut [u32], scratch: &mu
     }
 }
 
-// The text that is printed for an input, with these buffers. 64 KiB hold the longest.
+// The text that is printed for an input, with these buffers. TEXT bytes hold the longest.
 fn plan_text(
     bytes: &[u8],
     text: &mut [u8],
@@ -83,7 +84,7 @@ fn plan_text(
     table: &mut [u32],
     scratch: &mut [u32],
 ) -> usize
-    requires { ⌜ 65536 ≤ length (now text) ⌝ }
+    requires { ⌜ TEXT ≤ length (now text) ⌝ }
     ensures { λ r. ⌜ ShownInput (now (bytes .entry)) (now (answers .entry)) (now (table .entry)) (now (scratch .entry))
         (now (answers .exit)) (now (table .exit)) (now (scratch .exit)) (now (text .entry)) (now (text .exit)) r ⌝ }
 {
@@ -99,7 +100,7 @@ fn plan_text(
 // The text that the program prints for its input: how many of the lent bytes it has; any beyond are kept. Answers hold the largest blocks of 32 asks;
 // scratch serves up to 14 units.
 pub fn plan_output(bytes: &[u8], text: &mut [u8]) -> usize
-    requires { ⌜ 65536 ≤ length (now text) ⌝ }
+    requires { ⌜ TEXT ≤ length (now text) ⌝ }
     ensures { λ r. ⌜ PlanPrinted (now (bytes .entry)) (now (text .entry)) (now (text .exit)) r ⌝ }
 {
     let mut answers = [0u32; 2752];

@@ -13,7 +13,8 @@ use Rattle.sums.proofs.LoopLaws.{zeros-at}
 use Rattle.model.specs.declared.Layout.{Layout}
 use Rattle.model.specs.Problem.{Problem}
 use Rattle.model.specs.Words.{problemOf}
-use Rattle.model.specs.Commitment.{fullLeast}
+use Rattle.model.specs.Commitment.{fullLeast, NO_RUN}
+use Rattle.sets.specs.Sets.{SETS}
 use Rattle.instance.specs.Filed.{Filed}
 use Rattle.commitment.proofs.ScoreLaws.{least-small}
 use Rattle.memo.specs.declared.Kept.{Kept}
@@ -37,7 +38,7 @@ right-empty p memo n is = record { holds = λ e t out b l z. absurd (omega (arit
 pub looked-hit : (memo : List ℕ) (e key : ℕ) → getD memo (e * 2) 0 ≡ key → Present memo key (getD memo (e * 2 + 1) 0)
 looked-hit memo e key k = record { at = e; entry = record { under = k; kept = refl } }
 
-module _ (ws memo : List ℕ) (l : Layout) (t out key v : ℕ) (found : Kept) (f : Filed ws l) (h : t < l .weeks) (b : out < 65536)
+module _ (ws memo : List ℕ) (l : Layout) (t out key v : ℕ) (found : Kept) (f : Filed ws l) (h : t < l .weeks) (b : out < SETS)
     (k : key ≡ keyOf t out) (m : Right (problemOf ws) memo) (looked : Looked memo key found) (is : found ≡ Word v) where
   present : Present memo key v
   present = subst (Looked memo key) is looked
@@ -48,7 +49,7 @@ module _ (ws memo : List ℕ) (l : Layout) (t out key v : ℕ) (found : Kept) (f
       sym (present .entry .kept) ∙ m .holds (present .at) t out (omega (arith, f .weeks-most)) b (present .entry .under ∙ k)
 
   -- which is no more than what stands for none
-  pub found-small : v ≤ 268435456
+  pub found-small : v ≤ NO_RUN
   found-small = omega (arith, found-cost, least-small ws l t f h (has out))
 
 -- ---- a word written
@@ -98,14 +99,14 @@ wrote-all P memo memo′ key v wrote old new e = ⊎-elim (λ h. moved _ _ h (ol
 
 -- what an entry says of a week's least cost
 abbrev Says : Problem → ℕ → ℕ → Type 0
-Says p k w = (t out : ℕ) → t < 64 → out < 65536 → k ≡ keyOf t out → w ≡ fullLeast p t (has out)
+Says p k w = (t out : ℕ) → t < 64 → out < SETS → k ≡ keyOf t out → w ≡ fullLeast p t (has out)
 
 module _ (p : Problem) (memo memo′ : List ℕ) (key v : ℕ) (right : Right p memo) (wrote : Wrote memo memo′ key v) where
   right-says : Says p key v → Right p memo′
   right-says new = record { holds = wrote-all (Says p) memo memo′ key v wrote (right .holds) new }
 
   -- a week's least cost under its key; keys tell the week and the set
-  pub right-put : (t out : ℕ) → out < 65536 → key ≡ keyOf t out → v ≡ fullLeast p t (has out) → Right p memo′
+  pub right-put : (t out : ℕ) → out < SETS → key ≡ keyOf t out → v ≡ fullLeast p t (has out) → Right p memo′
   unfolding keyOf
   right-put t out b k w = right-says (λ t′ out′ l′ b′ e. w ∙ ap (λ (x : ℕ). fullLeast p x (has out)) (omega arith)
       ∙ ap (λ (x : ℕ). fullLeast p t′ (has x)) (omega arith))
@@ -141,7 +142,7 @@ others-kept memo memo′ key v wrote small = record { same = λ e h. by e h (wro
     by e h (inr new) = absurd (omega (arith, new .under))
 
 -- as a week's key is
-pub others-put : (ws memo memo′ : List ℕ) (l : Layout) (t out key v : ℕ) → Filed ws l → t < l .weeks → out < 65536 → key ≡ keyOf t out
+pub others-put : (ws memo memo′ : List ℕ) (l : Layout) (t out key v : ℕ) → Filed ws l → t < l .weeks → out < SETS → key ≡ keyOf t out
     → Wrote memo memo′ key v → Others memo memo′
 unfolding keyOf
 others-put ws memo memo′ l t out key v f h b k wrote = others-kept memo memo′ key v wrote (omega (arith, f .weeks-most))

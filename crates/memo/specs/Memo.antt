@@ -1,5 +1,5 @@
 -- A memory of numbers in lent words: words taken in twos, each two an entry, a key and what is kept under it. What weeks' cheapest runs cost is kept
--- under the small keys; the keys from 2^22 on are another's.
+-- under the small keys; the keys from OTHERS on are another's.
 -- Assumes nothing.
 use Prim.Native.Nat.{ℕ, _+_, _*_, _≤_, _<_}
 use mathlib.Core.Path.{_≡_}
@@ -9,6 +9,7 @@ use lib.ListN.{getD}
 use Rattle.sums.specs.NumSet.{has}
 use Rattle.model.specs.Problem.{Problem}
 use Rattle.model.specs.Commitment.{fullLeast}
+use Rattle.sets.specs.Sets.{SETS}
 use Rattle.memo.specs.declared.Kept.{Kept}
 use Rattle.memo.specs.declared.Kept.the-variants.{Nothing, Word}
 
@@ -31,7 +32,7 @@ Looked memo key (Word v) = Present memo key v
 pub record Wrote (memo memo′ : List ℕ) (key v : ℕ) : Type 0 where
   pub each : (e : ℕ) → Entry memo′ e (getD memo (e * 2) 0) (getD memo (e * 2 + 1) 0) ⊎ Entry memo′ e key v
 
--- the first key that is another's
+-- 2 ^ 22: the first key that is another's
 abbrev pub OTHERS : ℕ
 OTHERS = 4194304
 
@@ -41,8 +42,8 @@ pub record Others (memo memo′ : List ℕ) : Type 0 where
 
 -- a week and the number of a set of 16 units as one number, never 0
 unfoldable pub keyOf : (t out : ℕ) → ℕ
-keyOf t out = t * 65536 + out + 1
+keyOf t out = t * SETS + out + 1
 
 -- an entry under the key of a week, of 64 at most, and a set has that week's least cost; 0 is no such key
 pub record Right (p : Problem) (memo : List ℕ) : Type 0 where
-  pub holds : (e t out : ℕ) → t < 64 → out < 65536 → getD memo (e * 2) 0 ≡ keyOf t out → getD memo (e * 2 + 1) 0 ≡ fullLeast p t (has out)
+  pub holds : (e t out : ℕ) → t < 64 → out < SETS → getD memo (e * 2) 0 ≡ keyOf t out → getD memo (e * 2 + 1) 0 ≡ fullLeast p t (has out)

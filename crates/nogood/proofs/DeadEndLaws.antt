@@ -14,7 +14,7 @@ use Rattle.sums.proofs.LogicLaws.{true-false}
 use Rattle.model.specs.Problem.{Problem}
 use Rattle.model.specs.Domain.{permitted}
 use Rattle.model.specs.Schedule.{Schedule, Sound, cost}
-use Rattle.model.specs.Nogood.{Choice, Takes, Legal, IsNogood}
+use Rattle.model.specs.Nogood.{MOST_LIMIT, Choice, Takes, Legal, IsNogood}
 use Rattle.blame.specs.Closed.{Closed}
 use Rattle.nogood.specs.Noting.{choiceOf, choicesOf, nogoodFor}
 
@@ -25,9 +25,9 @@ abbrev Below : ℕ → List Choice → Type 0
 Below v [] = Unit {0}
 Below v (c ∷ cs) = (c .unit < v) × Below v cs
 
-below-more : (v w : ℕ) (cs : List Choice) → v ≤ w → Below v cs → Below w cs
-below-more v w [] l h = tt
-below-more v w (c ∷ cs) l h = (omega (arith, h .0), below-more v w cs l (h .1))
+below-wider : (v w : ℕ) (cs : List Choice) → v ≤ w → Below v cs → Below w cs
+below-wider v w [] l h = tt
+below-wider v w (c ∷ cs) l h = (omega (arith, h .0), below-wider v w cs l (h .1))
 
 below-both : (v : ℕ) (cs ds : List Choice) → Below v cs → Below v ds → Below v (cs ++ ds)
 below-both v [] ds h g = g
@@ -46,7 +46,7 @@ unfolding choicesOf
 choices-below starts b zero = tt
 choices-below starts b (suc k) =
     below-both (suc k) (choicesOf starts b k) (choiceOf starts b k)
-    (below-more k (suc k) (choicesOf starts b k) (omega arith) (choices-below starts b k)) (choice-below starts b k)
+    (below-wider k (suc k) (choicesOf starts b k) (omega arith) (choices-below starts b k)) (choice-below starts b k)
 
 -- legal choices below v, and legal ones from v on
 legal-both : (p : Problem) (u v : ℕ) (cs ds : List Choice) → u ≤ v → Legal p u cs → Below v cs → Legal p v ds → Legal p u (cs ++ ds)
@@ -102,7 +102,7 @@ module _ (starts : ℕ → ℕ) (b : NumSet) (s : Schedule) where
       (eq-or-lt-of-le (le-of-suc-le-suc l))
 
 -- a dead end of permitted starts is a nogood, at the bound below the limit
-pub dead-end-nogood : (p : Problem) (starts : ℕ → ℕ) (b : NumSet) (k limit : ℕ) → 1 ≤ limit → limit ≤ 268435456 → k ≤ p .units
+pub dead-end-nogood : (p : Problem) (starts : ℕ → ℕ) (b : NumSet) (k limit : ℕ) → 1 ≤ limit → limit ≤ MOST_LIMIT → k ≤ p .units
     → length (choicesOf starts b k) ≤ 8 → ((i : ℕ) → i < k → permitted p i (starts i) ≡ true) → ((i : ℕ) → b i ≡ true → i < k)
     → Closed p b starts limit → IsNogood p (nogoodFor starts b k limit)
 dead-end-nogood p starts b k limit low high l few permits inside closed = record {
@@ -113,7 +113,7 @@ dead-end-nogood p starts b k limit low high l few permits inside closed = record
 }
 
 -- and so is the end of a walk that leaves no schedule below the limit, without choices
-pub walk-end-nogood : (p : Problem) (limit : ℕ) → 1 ≤ limit → limit ≤ 268435456 → ((s : Schedule) → Sound p s → limit ≤ cost p s)
+pub walk-end-nogood : (p : Problem) (limit : ℕ) → 1 ≤ limit → limit ≤ MOST_LIMIT → ((s : Schedule) → Sound p s → limit ≤ cost p s)
     → IsNogood p (record { bound = limit - 1; choices = [] })
 walk-end-nogood p limit low high none = record {
   few = omega arith;

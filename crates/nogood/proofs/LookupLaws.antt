@@ -12,7 +12,7 @@ use Rattle.sums.proofs.LoopLaws.{zeros-at}
 use Rattle.model.specs.Problem.{Problem, Fair}
 use Rattle.model.specs.Domain.{permitted}
 use Rattle.model.specs.Schedule.{Schedule, Sound, cost}
-use Rattle.model.specs.Words.{_∶_, kindOf, valueOf}
+use Rattle.model.specs.Words.{VALUES, _∶_, kindOf, valueOf}
 use Rattle.model.specs.Nogood.{Choice, Nogood, Takes, Legal, IsNogood, AreNogoods, choiceWords, nogoodWords, nogoodsWords}
 use Rattle.model.proofs.DomainLaws.{permits-below}
 use Rattle.nogood.specs.Recall.{Chosen, Choices, Has}
@@ -39,7 +39,7 @@ has-behind xs ys j starts h = record { each = λ m l run. at m (h .each (length 
 
 -- ---- the words of a nogood
 
-bound-told : (b : ℕ) → b < 268435456 → valueOf (13 ∶ b) ≡ b
+bound-told : (b : ℕ) → b < VALUES → valueOf (13 ∶ b) ≡ b
 unfolding valueOf
 bound-told b l = omega arith
 
@@ -54,8 +54,8 @@ module _ (p : Problem) (fair : Fair p) (short : p .weeks < 64) (few : p .units �
   unfolding valueOf
   choice-told c starts l e h =
       let s = permits-below p fair (c .unit) (c .start) l e in
-      let u : (14 ∶ ((c .unit + 1) * 64 + c .start)) % 268435456 / 64 - 1 ≡ c .unit = omega arith in
-      let v : (14 ∶ ((c .unit + 1) * 64 + c .start)) % 268435456 % 64 ≡ c .start = omega arith in
+      let u : (14 ∶ ((c .unit + 1) * 64 + c .start)) % VALUES / 64 - 1 ≡ c .unit = omega arith in
+      let v : (14 ∶ ((c .unit + 1) * 64 + c .start)) % VALUES % 64 ≡ c .start = omega arith in
       ap starts (sym u) ∙ h ∙ v
 
   -- choices are of their kind

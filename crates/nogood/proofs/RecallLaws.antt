@@ -1,17 +1,16 @@
 -- A nogood read word by word, from its bound to the last of its choices.
 -- Assumes nothing.
 use Prim.Native.Nat.{ℕ, _+_, _-_, _/_, _%_, _≤_, _<_}
-use mathlib.Core.Path.{_≡_, refl, sym, _∙_, ap, subst}
-use mathlib.Core.Bool.{true, _||_}
+use mathlib.Core.Path.{_≡_, sym, _∙_, ap, subst}
+use mathlib.Core.Bool.{true}
 use mathlib.Core.List.{List}
 use native.Mathlib.Decide.{decLt, ℕ-discrete}
 use native.Mathlib.Omega.{arith}
 use lib.ListN.{length, getD, List·getD-eq-default}
-use lib.Dec.{eqb}
-use borrow.Author.Tests.{eq-eqb, ne-eqb}
-use Rattle.sums.specs.NumSet.{has}
-use Rattle.sums.proofs.LogicLaws.{true-false, or-left, or-right, or-last-false}
-use Rattle.sums.proofs.NumSetLaws.{zero-has}
+use borrow.Author.Count.{below-more}
+use Rattle.sums.specs.NumSet.{has, with}
+use Rattle.sums.proofs.LogicLaws.{true-false}
+use Rattle.sums.proofs.NumSetLaws.{zero-has, with-at, with-old, with-else}
 use Rattle.model.specs.Words.{kindOf, valueOf}
 use Rattle.blame.specs.Closed.{startIn}
 use Rattle.nogood.specs.declared.Hit.{Hit}
@@ -52,30 +51,27 @@ reading-start w xs k i l = record {
 
 -- one more, which xs has
 pub reading-next : (w xs : List ℕ) (k i b r m u : ℕ) → Reading w xs k i b m → m < length w → UnitMet xs k (getD w m 0) u → 1 ≤ u
-    → ((j : ℕ) → has r j ≡ (has b j || eqb j (u - 1))) → Reading w xs k i r (m + 1)
+    → ((j : ℕ) → has r j ≡ with (has b) (u - 1) j) → Reading w xs k i r (m + 1)
 reading-next w xs k i b r m u h l met low joined = record {
   after = let a = h .after in omega arith;
   upto = omega arith;
-  chosen = λ starts on q x y. by starts on q x y (ℕ-discrete q m);
+  chosen = λ starts on q x y.
+      below-more (λ n. i < n → Chosen starts (getD w n 0)) m (λ n z g. h .chosen starts (λ j e. on j (old j e)) n g z) (λ g. here starts on) q y x;
   within = λ q x. inside q x (ℕ-discrete q (u - 1));
 }
   where
     old : (j : ℕ) → has b j ≡ true → has r j ≡ true
-    old j x = joined j ∙ or-left (has b j) (eqb j (u - 1)) x
+    old j x = joined j ∙ with-old (has b) (u - 1) j x
 
     new : has r (u - 1) ≡ true
-    new = joined (u - 1) ∙ or-right (has b (u - 1)) (eqb (u - 1) (u - 1)) (eq-eqb (u - 1) (u - 1) refl)
+    new = joined (u - 1) ∙ with-at (has b) (u - 1)
 
     inside : (q : ℕ) → has r q ≡ true → Dec (q ≡ u - 1) → q < k
     inside q x (yes z) = let t = met .most in omega arith
-    inside q x (no z) = h .within q (sym (joined q ∙ rw (ne-eqb q (u - 1) z) (or-last-false (has b q))) ∙ x)
+    inside q x (no z) = h .within q (sym (joined q ∙ with-else (has b) (u - 1) q z) ∙ x)
 
-    by : (starts : ℕ → ℕ) → ((j : ℕ) → has r j ≡ true → starts j ≡ startIn xs j) → (q : ℕ) → i < q → q < m + 1 → Dec (q ≡ m)
-        → Chosen starts (getD w q 0)
-    by starts on q x y (yes z) =
-        let c : starts (u - 1) ≡ valueOf (getD w m 0) % 64 = on (u - 1) new ∙ met .start low in
-        subst (λ (t : ℕ). Chosen starts (getD w t 0)) (sym z) (subst (λ (t : ℕ). starts (t - 1) ≡ valueOf (getD w m 0) % 64) (met .unit low) c)
-    by starts on q x y (no z) = h .chosen starts (λ j g. on j (old j g)) q x (omega arith)
+    here : (starts : ℕ → ℕ) → ((j : ℕ) → has r j ≡ true → starts j ≡ startIn xs j) → Chosen starts (getD w m 0)
+    here starts on = subst (λ (t : ℕ). starts (t - 1) ≡ valueOf (getD w m 0) % 64) (met .unit low) (on (u - 1) new ∙ met .start low)
 
 reading-stop : (w xs : List ℕ) (k i b m : ℕ) → Reading w xs k i b m → (kindOf (getD w m 0) ≡ 14 → ⊥) → Match w xs k i b
 reading-stop w xs k i b m h stop = record {

@@ -15,7 +15,7 @@ use Rattle.model.specs.Problem.{Problem, Fair}
 use Rattle.model.specs.Domain.{permitted}
 use Rattle.model.specs.Schedule.{Schedule, Sound, cost}
 use Rattle.model.specs.Words.{_∶_}
-use Rattle.model.specs.Nogood.{Choice, Nogood, IsNogood, AreNogoods, DeadEndsBelow, choiceWords, nogoodWords, nogoodsWords}
+use Rattle.model.specs.Nogood.{MOST_LIMIT, Choice, Nogood, IsNogood, AreNogoods, DeadEndsBelow, choiceWords, nogoodWords, nogoodsWords}
 use Rattle.model.specs.Nogood.{aloneFirst, boundsAlone}
 use Rattle.model.proofs.NogoodLaws.{nogoods-words-append, bounds-alone-append}
 use Rattle.blame.specs.Closed.{Closed, startIn}
@@ -164,7 +164,7 @@ none-alone g l = go (g .choices) l
     go (c ∷ cs) h = refl
 
 -- a table with a dead end that was noted, or left out
-pub stock-noted : (p : Problem) (gs : List Nogood) (words xs : List ℕ) (used k b limit : ℕ) → Stock p gs words used → k ≤ p .units → limit ≤ 268435456
+pub stock-noted : (p : Problem) (gs : List Nogood) (words xs : List ℕ) (used k b limit : ℕ) → Stock p gs words used → k ≤ p .units → limit ≤ MOST_LIMIT
     → ((i : ℕ) → i < k → permitted p i (startIn xs i) ≡ true) → ((i : ℕ) → has b i ≡ true → i < k) → Closed p (has b) (startIn xs) limit
     → Grown p DeadEnds gs (noted words used limit (nogoodFor (startIn xs) (has b) k limit))
     (notedUsed (length words) used limit (nogoodFor (startIn xs) (has b) k limit))
@@ -215,7 +215,7 @@ noted-length words used limit g = go (notable (length words) used limit (g .choi
 -- ---- the end of a walk noted
 
 -- a table with the end of a walk, under which no schedule costs less than the limit
-pub stock-ended : (p : Problem) (gs : List Nogood) (words : List ℕ) (used limit : ℕ) → Stock p gs words used → used < length words → limit ≤ 268435456
+pub stock-ended : (p : Problem) (gs : List Nogood) (words : List ℕ) (used limit : ℕ) → Stock p gs words used → used < length words → limit ≤ MOST_LIMIT
     → ((s : Schedule) → Sound p s → limit ≤ cost p s) → Grown p (Ends (endBounds limit)) gs (ended words used limit) (endUsed used limit)
 unfolding endBounds ended endUsed nogoodWords choiceWords boundsAlone aloneFirst
 stock-ended p gs words used limit s l high none = go (eqb limit 0) refl

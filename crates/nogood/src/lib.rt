@@ -6,7 +6,7 @@ ghost use lib.ListN.{length, replicate};
 ghost use Rattle.sums.specs.Sum.{sumTo, countsOne};
 ghost use Rattle.sums.specs.NumSet.{has, pick};
 ghost use Rattle.model.specs.Words.{_∶_};
-ghost use Rattle.model.specs.Nogood.{choiceWords, nogoodWords};
+ghost use Rattle.model.specs.Nogood.{MOST_LIMIT, choiceWords, nogoodWords};
 ghost use Rattle.blame.specs.Closed.{startIn};
 ghost use Rattle.lent.specs.Splice.{spliced};
 ghost use Rattle.nogood.specs.Noting.{choiceOf, choicesOf, nogoodFor, notedUsed, noted, endUsed, ended};
@@ -63,13 +63,18 @@ fn size(b: u32, k: usize) -> usize
     sum
 }
 
+// The word of kind 13, a bound, and value 0.
+const BOUND: u32 = 3489660928;
+
+// The word of kind 14, a choice, and value 0.
+const CHOICE: usize = 3758096384;
+
 // The word of a bound: no schedule costs less than the limit.
 fn bound_word(limit: u64) -> u32
-    requires { ⌜ (0 < limit) × (limit ≤ 268435456) ⌝ }
+    requires { ⌜ (0 < limit) × (limit ≤ MOST_LIMIT) ⌝ }
     ensures { λ r. ⌜ r ≡ 13 ∶ (limit - 1) ⌝ }
 {
-    // Kind 13 in the top 4 bits.
-    3489660928 + (limit - 1) as u32
+    BOUND + (limit - 1) as u32
 }
 
 // The word of unit q's choice.
@@ -77,8 +82,7 @@ fn choice_word(q: usize, start: usize) -> u32
     requires { ⌜ (q < 16) × (start < 256) ⌝ }
     ensures { λ r. ⌜ r ≡ 14 ∶ ((q + 1) * 64 + start) ⌝ }
 {
-    // Kind 14 in the top 4 bits.
-    (3758096384 + (q + 1) * 64 + start) as u32
+    (CHOICE + (q + 1) * 64 + start) as u32
 }
 
 // Writes unit q's choice at a place, where the set has the unit. Answers the place after it.
@@ -110,7 +114,7 @@ fn write_choices(table: &mut [u32], from: usize, starts: [u8; 16], k: usize, b: 
 
 // Writes the nogood of the units of b below k.
 fn write(table: &mut [u32], used: usize, starts: [u8; 16], k: usize, b: u32, limit: u64) -> usize
-    requires { ⌜ (used + 1 + k ≤ length (now table)) × (k ≤ 16) × (0 < limit) × (limit ≤ 268435456) ⌝ }
+    requires { ⌜ (used + 1 + k ≤ length (now table)) × (k ≤ 16) × (0 < limit) × (limit ≤ MOST_LIMIT) ⌝ }
     ensures place { λ r. ⌜ r ≡ used + length (nogoodWords (nogoodFor (startIn starts) (has b) k limit)) ⌝ }
     ensures words { λ r. ⌜ now (table .exit) ≡ spliced used (nogoodWords (nogoodFor (startIn starts) (has b) k limit)) (now (table .entry)) ⌝ }
 {
@@ -121,7 +125,7 @@ fn write(table: &mut [u32], used: usize, starts: [u8; 16], k: usize, b: u32, lim
 // Notes the dead end of the units of b below k, who share the blame, where it has 1 to 3 choices and leaves the last 32 words free. Answers how
 // many words are used then.
 pub fn note(table: &mut [u32], used: usize, starts: [u8; 16], k: usize, b: u32, limit: u64) -> usize
-    requires { ⌜ (used ≤ length (now table)) × (k ≤ 16) × (limit ≤ 268435456) ⌝ }
+    requires { ⌜ (used ≤ length (now table)) × (k ≤ 16) × (limit ≤ MOST_LIMIT) ⌝ }
     ensures place { λ r. ⌜ r ≡ notedUsed (length (now (table .entry))) used limit (nogoodFor (startIn starts) (has b) k limit) ⌝ }
     ensures words { λ r. ⌜ now (table .exit) ≡ noted (now (table .entry)) used limit (nogoodFor (startIn starts) (has b) k limit) ⌝ }
 {
@@ -143,7 +147,7 @@ pub fn note(table: &mut [u32], used: usize, starts: [u8; 16], k: usize, b: u32, 
 
 // Notes the end of a walk: no schedule costs less than the limit. Nothing is to say of a limit of 0. Answers how many words are used then.
 pub fn conclude(table: &mut [u32], used: usize, limit: u64) -> usize
-    requires { ⌜ (used < length (now table)) × (limit ≤ 268435456) ⌝ }
+    requires { ⌜ (used < length (now table)) × (limit ≤ MOST_LIMIT) ⌝ }
     ensures place { λ r. ⌜ r ≡ endUsed used limit ⌝ }
     ensures words { λ r. ⌜ now (table .exit) ≡ ended (now (table .entry)) used limit ⌝ }
 {
@@ -159,7 +163,7 @@ fn unit_met(starts: [u8; 16], k: usize, word: u32) -> usize
     requires { ⌜ k ≤ 16 ⌝ }
     ensures { λ r. ⌜ UnitMet starts k word r ⌝ }
 {
-    let value = instance::value_of(word);
+    let value = words::value_of(word);
     let unit = value / 64;
     if unit < 1 {
         return 0;
@@ -182,7 +186,7 @@ fn matching(table: &[u32], starts: [u8; 16], k: usize, i: usize) -> Hit
     let mut m = i + 1;
     while m < table.len() {
         let word = table[m];
-        if instance::kind_of(word) != 14 {
+        if words::kind_of(word) != 14 {
             return Hit::Cut(b);
         }
         let unit = unit_met(starts, k, word);
@@ -201,10 +205,10 @@ fn meets(table: &[u32], starts: [u8; 16], k: usize, limit: u64, i: usize) -> Hit
     ensures { λ r. ⌜ Recalled (now (table .entry)) starts k limit r ⌝ }
 {
     let word = table[i];
-    if instance::kind_of(word) != 13 {
+    if words::kind_of(word) != 13 {
         return Hit::Miss;
     }
-    let bound = instance::value_of(word) as u64;
+    let bound = words::value_of(word) as u64;
     if limit <= bound + 1 {
         return matching(table, starts, k, i);
     }

@@ -9,7 +9,6 @@ use Rattle.sums.proofs.LoopLaws.{sum-next, sum-ended}
 use Rattle.model.specs.declared.Layout.{Layout}
 use Rattle.model.specs.Words.{problemOf}
 use Rattle.instance.specs.Filed.{Filed}
-use Rattle.instance.proofs.FiledLaws.{weeks-are}
 use Rattle.overhaul.specs.Off.{offWeeks}
 
 -- one more week
@@ -23,4 +22,4 @@ pub off-ended : (ws : List ℕ) (l : Layout) (i t weeks r : ℕ) → Filed ws l 
     → r ≡ sumTo t (turned (problemOf ws .off) i) → r ≡ offWeeks (problemOf ws) i
 unfolding offWeeks
 off-ended ws l i t weeks r f e a b h =
-    sum-ended (turned (problemOf ws .off) i) t (problemOf ws .weeks) r h (omega (arith, weeks-are ws l f)) (omega (arith, weeks-are ws l f))
+    sum-ended (turned (problemOf ws .off) i) t (problemOf ws .weeks) r h (omega arith) (omega arith)

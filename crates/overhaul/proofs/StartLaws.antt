@@ -1,8 +1,8 @@
 -- The permitted starts of a unit are a range: from its earliest to its latest, or to the last from which its overhaul ends in time.
 -- Assumes nothing.
 use Prim.Native.Nat.{ℕ, zero, suc, _+_, _-_, _≤_, _<_, min}
-use mathlib.Core.Path.{_≡_}
-use mathlib.Core.Bool.{_&&_}
+use mathlib.Core.Path.{_≡_, sym, _∙_}
+use mathlib.Core.Bool.{true, _&&_}
 use mathlib.Core.List.{List}
 use native.Mathlib.Decide.{decLe}
 use native.Mathlib.Omega.{arith}
@@ -17,7 +17,6 @@ use Rattle.model.specs.Words.{problemOf}
 use Rattle.model.specs.Domain.{permitted, startsBelow, startCount}
 use Rattle.model.proofs.DomainLaws.{permits-from, permits-to, permits-ends, permits-of}
 use Rattle.instance.specs.Filed.{Filed}
-use Rattle.instance.proofs.FiledLaws.{weeks-are}
 use Rattle.overhaul.specs.Range.{lastStart, StartRange}
 
 -- of any problem, where the overhaul fits into the season
@@ -36,18 +35,31 @@ module _ (ws : List ℕ) (l : Layout) (i a b d last : ℕ) where
   pub starts-range : Filed ws l → a ≡ problemOf ws .earliest i → b ≡ problemOf ws .latest i → d ≡ problemOf ws .duration i → d ≤ l .weeks
       → last ≡ min b (l .weeks - d + 1) → StartRange (problemOf ws) i a last
   starts-range f ea eb ed h e = record {
-    exact = rw ea (range-of (problemOf ws) i last (rw (weeks-are ws l f, ← ed) h) (rw (weeks-are ws l f, ← eb, ← ed) e));
+    exact = rw ea (range-of (problemOf ws) i last (rw (f .weeks-are, ← ed) h) (rw (f .weeks-are, ← eb, ← ed) e));
   }
 
 -- the last of them
 pub last-is : (ws : List ℕ) (l : Layout) (i b d last : ℕ) → Filed ws l → b ≡ problemOf ws .latest i → d ≡ problemOf ws .duration i
     → last ≡ min b (l .weeks - d + 1) → last ≡ lastStart (problemOf ws) i
 unfolding lastStart
-last-is ws l i b d last f eb ed e = rw (weeks-are ws l f, ← eb, ← ed) e
+last-is ws l i b d last f eb ed e = rw (f .weeks-are, ← eb, ← ed) e
 
 -- none lies after the season
 pub last-within : (w b c last : ℕ) → last ≡ min b c → b ≤ w → last ≤ w
 last-within w b c last e h = omega arith
+
+-- ---- permitted or not, by the range
+
+module _ (p : Problem) (i first last s : ℕ) (range : StartRange p i first last) where
+  -- a start in the range is permitted
+  pub range-in : first ≤ s → s ≤ last → permitted p i s ≡ true
+  range-in a b = range .exact s ∙ and-of (leb first s) (leb s last) (le-leb first s a) (le-leb s last b)
+
+  -- a permitted start lies in the range
+  pub range-at : permitted p i s ≡ true → (first ≤ s) × (s ≤ last)
+  range-at e =
+      let t : (leb first s && leb s last) ≡ true = sym (range .exact s) ∙ e in
+      (leb-true first s (and-left (leb first s) (leb s last) t), leb-true s last (and-right (leb first s) (leb s last) t))
 
 -- ---- how many there are
 

@@ -14,7 +14,6 @@ use Rattle.model.specs.Plan.{upkeep}
 use Rattle.model.proofs.DomainLaws.{permits-from, permits-ends}
 use Rattle.model.proofs.FileLaws.{fair}
 use Rattle.instance.specs.Filed.{Filed}
-use Rattle.instance.proofs.FiledLaws.{weeks-are, units-are}
 use Rattle.overhaul.proofs.SpanLaws.{span-sum}
 
 -- one more week
@@ -27,12 +26,12 @@ module _ (ws : List ℕ) (l : Layout) (i start : ℕ) (f : Filed ws l) (h : i < 
   -- starts count from 1
   pub start-some : 1 ≤ start
   start-some =
-      let u : i < problemOf ws .units = rw (units-are ws l f) h in
+      let u : i < problemOf ws .units = rw (f .units-are) h in
       omega (arith, permits-from (problemOf ws) i start e, fair ws (f .passed) .from-one i u)
 
   -- the overhaul ends in the season
   pub ends-within : (d : ℕ) → d ≡ problemOf ws .duration i → start - 1 + d ≤ l .weeks
-  ends-within d is = omega (arith, start-some, permits-ends (problemOf ws) i start e, weeks-are ws l f)
+  ends-within d is = omega (arith, start-some, permits-ends (problemOf ws) i start e)
 
   -- all its weeks
   pub upkeep-ended : (k d r : ℕ) → d ≡ problemOf ws .duration i → k ≤ d → d ≤ k
@@ -41,7 +40,7 @@ module _ (ws : List ℕ) (l : Layout) (i start : ℕ) (f : Filed ws l) (h : i < 
   upkeep-ended k d r is m n t =
       let p = problemOf ws in
       let s : start ≡ suc (start - 1) = omega (arith, start-some) in
-      let b : start - 1 + p .duration i ≤ p .weeks = omega (arith, ends-within d is, weeks-are ws l f) in
+      let b : start - 1 + p .duration i ≤ p .weeks = omega (arith, ends-within d is) in
       sum-ended (shifted (start - 1) (turned (p .maint) i)) k d r t m n
       ∙ ap (λ (z : ℕ). sumTo z (shifted (start - 1) (turned (p .maint) i))) is
       ∙ sym (span-sum (start - 1) (p .duration i) (turned (p .maint) i) (p .weeks) b)

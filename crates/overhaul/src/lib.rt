@@ -4,7 +4,7 @@ use instance::Euro;
 use model::Layout;
 ghost use mathlib.Core.Path.{_≡_};
 ghost use mathlib.Core.Bool.{true};
-ghost use Prim.Native.Nat.{_<_, _≤_, min};
+ghost use Prim.Native.Nat.{_<_, _≤_};
 ghost use Rattle.model.specs.Words.{problemOf};
 ghost use Rattle.model.specs.Domain.{permitted};
 ghost use Rattle.model.specs.Plan.{upkeep};
@@ -18,16 +18,6 @@ pub struct Starts {
     pub last: usize,
 }
 
-// The smaller of two starts.
-fn smaller(a: usize, b: usize) -> usize
-    ensures { λ r. ⌜ r ≡ min a b ⌝ }
-{
-    if a < b {
-        return a;
-    }
-    b
-}
-
 // The permitted starts of unit i.
 pub fn starts_of(words: &[u32], l: Layout, i: usize) -> Starts
     requires { ⌜ Filed (now words) l ⌝ }
@@ -39,7 +29,7 @@ pub fn starts_of(words: &[u32], l: Layout, i: usize) -> Starts
     let latest = instance::latest(words, l, i);
     let duration = instance::duration(words, l, i);
     // From a later start the overhaul would not end in the season.
-    let last = smaller(latest, l.weeks - duration + 1);
+    let last = words::min(latest, l.weeks - duration + 1);
     Starts { first, last }
 }
 

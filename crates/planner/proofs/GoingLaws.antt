@@ -9,8 +9,6 @@ use native.Mathlib.Nat.{zero-add, eq-or-lt-of-le, add-mul, one-mul, mul-le-mul-r
 use native.Mathlib.Numerals.{add-one}
 use native.Mathlib.Omega.{arith}
 use lib.ListN.{length, drop, replicate, length-append, length-replicate}
-use mir.Syntax.{w64}
-use mir.Val.{Fits}
 use borrow.Author.Tests.{le-ltb}
 use Rattle.sums.specs.Range.{someTo, listTo}
 use Rattle.sums.proofs.LogicLaws.{true-false}
@@ -25,7 +23,7 @@ use Rattle.model.specs.Answer.{Answer, Correct, blockOf, blocksOf}
 use Rattle.model.specs.Asks.{askCount, ceilingAt, budgetAt, answerAt, Follows, settles, settled, Leaves, leftAt, Answered}
 use Rattle.model.proofs.AnswerLaws.{blocks-append}
 use Rattle.model.proofs.AskLaws.{answer-old, answer-new, settles-old, settled-old, left-old, left-new, left-append, blocks-length}
-use Rattle.instance.proofs.FiledLaws.{weeks-are, units-are}
+use Rattle.instance.specs.Filed.{Filed}
 use Rattle.nogood.specs.Stock.{Stock, Grown}
 use Rattle.nogood.proofs.StockLaws.{stock-none}
 use Rattle.search.specs.declared.Reply.{Reply}
@@ -161,10 +159,6 @@ module _ (p : Problem) (asks lent answers table : List ℕ) (m : Memory) (k : �
       }
 
 module _ (ws asks : List ℕ) (l : Layout) (k lent room : ℕ) (ok : Admitted ws l asks lent room) (less : k < askCount asks) where
-  -- an ask of the run
-  pub ask-few : k < 32
-  ask-few = omega (arith, ok .few)
-
   -- there is room for its block
   pub ask-placed : Placed l k room
   ask-placed =
@@ -178,34 +172,29 @@ module _ (ws asks : List ℕ) (l : Layout) (k lent room : ℕ) (ok : Admitted ws
         room = omega (arith, all, ok .room, add-mul k 1 size, one-mul size);
       }
 
-  -- answered in its block
-  pub turned : (answers answers′ table table′ : List ℕ) (m m′ : Memory) (r : Reply) (ceiling budget : ℕ)
-      → ceiling ≡ ceilingAt asks k → budget ≡ budgetAt asks k → Replied (problemOf ws) ceiling budget m table table′ r
-      → answers′ ≡ putAt l k r answers → Remembered m ceiling r m′ → Turned (problemOf ws) asks answers table m k answers′ table′ m′
-  unfolding blockSize putAt
-  turned answers answers′ table table′ m m′ r ceiling budget c b replied put kept = record {
-    next = λ start going.
-        going-next p asks start answers table m k going table′ r own m′ (subst (λ (x : ℕ). Remembered m x r m′) c kept) (k * blockSize p) answers′
-        (place start going) words;
-  }
-    where
-      p : Problem
-      p = problemOf ws
+-- answered in its block
+pub turned : (ws asks : List ℕ) (l : Layout) (k : ℕ) → Filed ws l → (answers answers′ table table′ : List ℕ) (m m′ : Memory) (r : Reply)
+    → Replied (problemOf ws) (ceilingAt asks k) (budgetAt asks k) m table table′ r → answers′ ≡ putAt l k r answers
+    → Remembered m (ceilingAt asks k) r m′ → Turned (problemOf ws) asks answers table m k answers′ table′ m′
+unfolding blockSize putAt
+turned ws asks l k f answers answers′ table table′ m m′ r replied put kept = record {
+  next = λ start going.
+      going-next p asks start answers table m k going table′ r replied m′ kept (k * blockSize p) answers′ (place start going) words;
+}
+  where
+    p : Problem
+    p = problemOf ws
 
-      own : Replied p (ceilingAt asks k) (budgetAt asks k) m table table′ r
-      own = subst₂ (λ (x y : ℕ). Replied p x y m table table′ r) c b replied
+    words : answers′ ≡ spliced (k * blockSize p) (blockOf p (answerOf p r)) answers
+    words =
+        put
+        ∙ ap₂ (λ (u w : ℕ). spliced (k * (2 + 2 * u + w)) (listTo (2 + 2 * u + w) (blockWord u w r)) answers) (sym (f .units-are)) (sym (f .weeks-are))
+        ∙ ap (λ (bs : List ℕ). spliced (k * blockSize p) bs answers) (block-listed p (ceilingAt asks k) (budgetAt asks k) r (replied .correct))
 
-      words : answers′ ≡ spliced (k * blockSize p) (blockOf p (answerOf p r)) answers
-      words =
-          put
-          ∙ ap₂ (λ (u w : ℕ). spliced (k * (2 + 2 * u + w)) (listTo (2 + 2 * u + w) (blockWord u w r)) answers)
-          (sym (units-are ws l (ok .filed))) (sym (weeks-are ws l (ok .filed)))
-          ∙ ap (λ (bs : List ℕ). spliced (k * blockSize p) bs answers) (block-listed p ceiling budget r (replied .correct))
-
-      place : (start : List ℕ) (going : Going p asks start answers table m k) → k * blockSize p ≡ length (blocksOf p (going .told))
-      place start going =
-          sym (blocks-length p (ceilingAt asks) (budgetAt asks) (going .told) (λ i h. going .correct i (omega (arith, going .each)))
-          ∙ ap (λ (x : ℕ). x * blockSize p) (going .each))
+    place : (start : List ℕ) (going : Going p asks start answers table m k) → k * blockSize p ≡ length (blocksOf p (going .told))
+    place start going =
+        sym (blocks-length p (ceilingAt asks) (budgetAt asks) (going .told) (λ i h. going .correct i (omega (arith, going .each)))
+        ∙ ap (λ (x : ℕ). x * blockSize p) (going .each))
 
 -- ---- before the first ask
 
@@ -271,28 +260,19 @@ going-answered p asks lent answers table m k n h l g e =
 pub admitted-still : (ws : List ℕ) (l : Layout) (asks : List ℕ) (t n t′ n′ : ℕ) → Admitted ws l asks t n → t′ ≡ t → n′ ≡ n → Admitted ws l asks t′ n′
 admitted-still ws l asks t n t′ n′ h e f = record { filed = h .filed; few = h .few; long = omega (arith, h .long); room = omega (arith, h .room) }
 
--- the next ask finds the table that it wants
-pub ask-ready : (ws : List ℕ) (l : Layout) (asks : List ℕ) (t n k : ℕ) (p : Problem) (lent answers table : List ℕ)
-    (m : Memory) → Admitted ws l asks t n
-    → k < length asks / 2 → length table ≡ t → Going p asks lent answers table m k → Ready p table m
-unfolding askCount
-ask-ready ws l asks t n k p lent answers table m ok less e going =
-    going-ready p asks lent answers table m k going (omega (arith, ok .few)) (omega (arith, ok .long))
-
--- an ask of the run, counted as the code counts
-pub ask-less : (asks : List ℕ) (k n : ℕ) → k < n → n ≡ length asks / 2 → k < askCount asks
-unfolding askCount
-ask-less asks k n l e = omega arith
-
--- and its number is small
-pub ask-fits : (ws : List ℕ) (l : Layout) (asks : List ℕ) (t n k : ℕ) → Admitted ws l asks t n → k < length asks / 2 → Fits w64 (k + 1)
-unfolding askCount
-ask-fits ws l asks t n k ok less = omega (arith, ok .few)
-
 -- an emptied list is as long as it was
-pub cleared-long : (w d : List ℕ) → w ≡ replicate (length d) 0 → length w ≡ length d
+cleared-long : (w d : List ℕ) → w ≡ replicate (length d) 0 → length w ≡ length d
 cleared-long w d e = ap length e ∙ length-replicate {A = ℕ} (length d) 0
 
--- and its words are 0
+-- its words are 0
 pub cleared-all : (w d : List ℕ) → w ≡ replicate (length d) 0 → w ≡ replicate (length w) 0
 cleared-all w d e = e ∙ ap (λ (n : ℕ). replicate n 0) (sym (cleared-long w d e))
+
+-- a run is admitted with it still
+pub cleared-admitted : (ws : List ℕ) (l : Layout) (asks w d : List ℕ) (n : ℕ) → Admitted ws l asks (length d) n → w ≡ replicate (length d) 0
+    → Admitted ws l asks (length w) n
+cleared-admitted ws l asks w d n ok e = admitted-still ws l asks (length d) n (length w) n ok (cleared-long w d e) refl
+
+-- and what keeps its length has the old one
+pub cleared-kept : (v w d : List ℕ) → w ≡ replicate (length d) 0 → length v ≡ length w → length v ≡ length d
+cleared-kept v w d e same = same ∙ cleared-long w d e

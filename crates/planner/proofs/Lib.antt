@@ -6,3 +6,5 @@ pub mod TurnLaws
 pub mod GoingLaws
 -- a whole run by its verdict
 pub mod RunLaws
+-- what its functions ask and give
+pub mod DueLaws

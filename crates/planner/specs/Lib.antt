@@ -2,3 +2,5 @@
 pub mod Memory
 -- a run after some of its asks
 pub mod Going
+-- what its functions ask and give
+pub mod Due

@@ -9,7 +9,7 @@ use lib.Dec.{ltb}
 use lib.ListN.{length}
 use Rattle.model.specs.Problem.{Problem}
 use Rattle.model.specs.Best.{Everywhere}
-use Rattle.model.specs.Nogood.{Nogood}
+use Rattle.model.specs.Nogood.{MOST_LIMIT, Nogood}
 use Rattle.model.specs.Answer.{Answer, optimal, infeasible, incumbent, unknown, Found, Correct}
 use Rattle.model.specs.Asks.{Leaves}
 use Rattle.nogood.specs.Stock.{Stock, Grown}
@@ -32,7 +32,7 @@ pub record Known (p : Problem) (m : Memory) : Type 0 where
 pub record Knows (p : Problem) (m : Memory) : Type 0 where
   pub least : AllSettled p (m .least .0)
   pub plan : m .known ≡ true → Known p m
-  pub small : m .plan .state .limit .0 ≤ 268435456
+  pub small : m .plan .state .limit .0 ≤ MOST_LIMIT
 
 -- an ask under ceiling d is settled by it
 unfoldable pub settledBy : Memory → ℕ → Bool
@@ -50,7 +50,7 @@ pub record SaysNothing (m : Memory) : Type 0 where
   pub unknown : m .known ≡ false
   pub least : m .least .0 ≡ 0
   pub words : m .used ≡ 0
-  pub small : m .plan .state .limit .0 ≤ 268435456
+  pub small : m .plan .state .limit .0 ≤ MOST_LIMIT
 
 -- ---- one ask
 
@@ -65,7 +65,7 @@ pub record SaysNone (used : ℕ) (r : Reply) : Type 0 where
   pub nothing : r .state .found ≡ false
   pub ended : r .walked ≡ Dead 0
   pub words : r .state .used ≡ used
-  pub small : r .state .limit .0 ≤ 268435456
+  pub small : r .state .limit .0 ≤ MOST_LIMIT
 
 -- a reply with another number of words in use
 abbrev pub withUsed : Reply → ℕ → Reply
@@ -77,6 +77,7 @@ withUsed r used = record {
     limit = r .state .limit;
     used = used;
     tries = r .state .tries;
+    budget = r .state .budget;
     found = r .state .found;
   };
   walked = r .walked;
@@ -94,7 +95,7 @@ pub record Replied (p : Problem) (ceiling budget : ℕ) (m : Memory) (w w′ : L
   pub stock : (gs : List Nogood) → Stock p gs w (m .used) → Grown p (Leaves (settledBy m ceiling) ceiling (answerOf p r)) gs w′ (r .state .used)
   pub words : (n : ℕ) → m .used ≤ n → length w - 32 ≤ n → r .state .used ≤ n + 1
   pub long : length w′ ≡ length w
-  pub small : r .state .limit .0 ≤ 268435456
+  pub small : r .state .limit .0 ≤ MOST_LIMIT
 
 -- what is remembered of an answer under ceiling c, in m′ after m: a plan; that there is none; nothing
 abbrev pub Keeps : (m : Memory) (c : ℕ) (r : Reply) (m′ : Memory) → Answer → Type 0

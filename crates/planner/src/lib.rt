@@ -6,6 +6,7 @@ use model::Layout;
 use search::Reply;
 use state::State;
 use state::Walked;
+use tables::TABLES;
 ghost use mathlib.Core.Path.{_≡_};
 ghost use Prim.Native.Nat.{_+_, _<_, max};
 ghost use lib.ListN.{length, replicate};
@@ -13,11 +14,13 @@ ghost use Rattle.model.specs.Words.{problemOf};
 ghost use Rattle.model.specs.Asks.{askCount, Answered, Ran};
 ghost use Rattle.decoder.specs.Answers.{verdictOf};
 ghost use Rattle.instance.specs.Filed.{Filed};
-ghost use Rattle.relaxation.specs.Relaxed.{priceIn, Recalls};
-ghost use Rattle.dual.specs.Dual.{Dual};
+ghost use Rattle.tables.specs.Tables.{TABLES, priceIn};
+ghost use Rattle.relaxation.specs.Relaxed.{Recalls};
+ghost use Rattle.search.specs.Walk.{Walking};
 ghost use Rattle.asks.specs.Admitted.{Admitted};
-ghost use Rattle.planner.specs.Memory.{SaysNothing, Ready, SaysNone, withUsed, Replied, Remembered};
-ghost use Rattle.planner.specs.Going.{Going, Turned};
+ghost use Rattle.planner.specs.Memory.{SaysNothing, SaysNone, withUsed, Remembered};
+ghost use Rattle.planner.specs.Going.{Turned};
+ghost use Rattle.planner.specs.Due.{ReplyDue, Told, PutDue, TurnPut, TurnDue, Runs};
 
 // What the asks so far have settled: no sound schedule costs less than `least`, and where a plan is known it is the earliest at that cost. Beside it
 // the words of the table in use.
@@ -42,6 +45,7 @@ fn none(used: usize) -> Reply
             limit: Euro(0),
             used,
             tries: 0,
+            budget: 0,
             found: false,
         },
         walked: Walked::Dead(0),
@@ -66,28 +70,21 @@ fn again(plan: Reply, used: usize) -> Reply
 
 // ---- one ask
 
-// What an ask is told: at once where the memory settles it, else by a search.
+// What ask k is told: at once where the memory settles it, else by a search.
 fn reply(
     words: &[u32],
     l: Layout,
-    prices: &[u32; 832],
-    clashes: &[u32; 16],
-    costs: &[u32; 1024],
-    roots: &[u32; 53],
-    ceiling: u32,
-    budget: u32,
+    tables: &[u32; TABLES],
+    asks: &[u32],
+    k: usize,
     m: Memory,
     table: &mut [u32],
     scratch: &mut [u32],
 ) -> Reply
-    requires { ⌜ Filed (now words) l ⌝ }
-    requires { ⌜ ceiling < 268435456 ⌝ }
-    requires { ⌜ Ready (problemOf (now words)) (now table) m ⌝ }
-    requires { ⌜ Dual (problemOf (now words)) (now prices) (now clashes) (now costs) (now roots) ⌝ }
-    requires { ⌜ Recalls (problemOf (now words)) (priceIn (now prices)) (now scratch) ⌝ }
-    ensures answer { λ r. ⌜ Replied (problemOf (now (words .entry))) ceiling budget m (now (table .entry)) (now (table .exit)) r ⌝ }
-    ensures recalls { λ r. ⌜ Recalls (problemOf (now (words .entry))) (priceIn (now (prices .entry))) (now (scratch .exit)) ⌝ }
+    requires { ⌜ ReplyDue (now words) l (now tables) (now asks) k m (now table) (now scratch) ⌝ }
+    ensures { λ r. ⌜ Told (now (words .entry)) l (now (tables .entry)) (now (asks .entry)) k m (now (table .entry)) (now (table .exit)) (now (scratch .exit)) r ⌝ }
 {
+    let ceiling = asks::ceiling(asks, k);
     let used = m.used;
     let least = m.least;
     if (ceiling as u64) < least.0 {
@@ -97,19 +94,8 @@ fn reply(
         let plan = m.plan;
         return again(plan, used);
     }
-    search::solve(
-        words,
-        l,
-        prices,
-        clashes,
-        costs,
-        roots,
-        ceiling,
-        budget,
-        table,
-        used,
-        scratch,
-    )
+    let budget = asks::budget(asks, k);
+    search::solve(words, l, tables, ceiling, budget, table, used, scratch)
 }
 
 // The larger of the least cost so far and a ceiling that nothing is at or below.
@@ -157,14 +143,27 @@ fn remembered(m: Memory, ceiling: u32, told: Reply) -> Memory
     }
 }
 
-// Answers ask k: its block goes into the lent words, and the memory of it is handed on.
+// Puts the block of ask k into the lent words; the memory of it is handed on.
+fn put_turn(
+    l: Layout,
+    asks: &[u32],
+    k: usize,
+    m: Memory,
+    told: Reply,
+    answers: &mut [u32],
+) -> Memory
+    requires { ⌜ PutDue l (now asks) k told (length (now answers)) ⌝ }
+    ensures { λ r. ⌜ TurnPut l (now (asks .entry)) k m told (now (answers .entry)) (now (answers .exit)) r ⌝ }
+{
+    block::put(answers, l, k, told);
+    remembered(m, asks::ceiling(asks, k), told)
+}
+
+// Answers ask k.
 fn answer(
     words: &[u32],
     l: Layout,
-    prices: &[u32; 832],
-    clashes: &[u32; 16],
-    costs: &[u32; 1024],
-    roots: &[u32; 53],
+    tables: &[u32; TABLES],
     asks: &[u32],
     k: usize,
     m: Memory,
@@ -172,32 +171,13 @@ fn answer(
     table: &mut [u32],
     scratch: &mut [u32],
 ) -> Memory
-    requires { ⌜ Admitted (now words) l (now asks) (length (now table)) (length (now answers)) ⌝ }
-    requires { ⌜ k < askCount (now asks) ⌝ }
-    requires { ⌜ Ready (problemOf (now words)) (now table) m ⌝ }
-    requires { ⌜ Dual (problemOf (now words)) (now prices) (now clashes) (now costs) (now roots) ⌝ }
-    requires { ⌜ Recalls (problemOf (now words)) (priceIn (now prices)) (now scratch) ⌝ }
+    requires { ⌜ TurnDue (now words) l (now tables) (now asks) k m (length (now answers)) (now table) (now scratch) ⌝ }
     ensures answer { λ r. ⌜ Turned (problemOf (now (words .entry))) (now (asks .entry)) (now (answers .entry)) (now (table .entry)) m k
         (now (answers .exit)) (now (table .exit)) r ⌝ }
-    ensures recalls { λ r. ⌜ Recalls (problemOf (now (words .entry))) (priceIn (now (prices .entry))) (now (scratch .exit)) ⌝ }
+    ensures recalls { λ r. ⌜ Recalls (problemOf (now (words .entry))) (priceIn (now (tables .entry))) (now (scratch .exit)) ⌝ }
 {
-    let ceiling = asks::ceiling(asks, k);
-    let budget = asks::budget(asks, k);
-    let told = reply(
-        words,
-        l,
-        prices,
-        clashes,
-        costs,
-        roots,
-        ceiling,
-        budget,
-        m,
-        table,
-        scratch,
-    );
-    block::put(answers, l, k, told);
-    remembered(m, ceiling, told)
+    let told = reply(words, l, tables, asks, k, m, table, scratch);
+    put_turn(l, asks, k, m, told, answers)
 }
 
 // ---- a run
@@ -218,42 +198,34 @@ fn nothing() -> Memory
 fn answer_each(
     words: &[u32],
     l: Layout,
-    prices: &[u32; 832],
-    clashes: &[u32; 16],
-    costs: &[u32; 1024],
-    roots: &[u32; 53],
+    tables: &[u32; TABLES],
     asks: &[u32],
     first: Memory,
     answers: &mut [u32],
     table: &mut [u32],
     scratch: &mut [u32],
 )
-    requires { ⌜ Admitted (now words) l (now asks) (length (now table)) (length (now answers)) ⌝ }
-    requires { ⌜ Going (problemOf (now words)) (now asks) (now answers) (now answers) (now table) first 0 ⌝ }
-    requires { ⌜ Dual (problemOf (now words)) (now prices) (now clashes) (now costs) (now roots) ⌝ }
-    requires { ⌜ Recalls (problemOf (now words)) (priceIn (now prices)) (now scratch) ⌝ }
+    requires { ⌜ Runs (now words) l (now tables) (now asks) (now answers) (now table) (now answers) (now table) first 0 (now scratch) ⌝ }
     ensures { λ r. ⌜ Answered (problemOf (now (words .entry))) (now (asks .entry)) (now (answers .entry)) (now (answers .exit)) (now (table .exit)) ⌝ }
     ensures { λ r. ⌜ length (now (table .exit)) ≡ length (now (table .entry)) ⌝ }
 {
     let n = asks.len() / 2;
     let mut m = first;
+    // Each time round, the asks before k are answered, and the memory says what they settle.
     for k in 0..n {
-        let next = answer(
-            words,
-            l,
-            prices,
-            clashes,
-            costs,
-            roots,
-            asks,
-            k,
-            m,
-            answers,
-            table,
-            scratch,
-        );
+        let next = answer(words, l, tables, asks, k, m, answers, table, scratch);
         m = next;
     }
+}
+
+// The table of a walk for a file, with an emptied memory.
+fn tables_of(words: &[u32], l: Layout, scratch: &mut [u32]) -> [u32; TABLES]
+    requires { ⌜ Filed (now words) l × (now scratch ≡ replicate (length (now scratch)) 0) ⌝ }
+    ensures { λ r. ⌜ Walking (now (words .entry)) l r (now (scratch .exit)) ⌝ }
+{
+    let first = tables::first(words, l);
+    let priced = prices::find_prices(words, l, &first, scratch);
+    dual::filled(words, l, &priced, scratch)
 }
 
 // Every ask of a run in turn, at prices that the file gives, with an emptied table.
@@ -265,29 +237,14 @@ fn answer_priced(
     table: &mut [u32],
     scratch: &mut [u32],
 )
-    requires { ⌜ Admitted (now words) l (now asks) (length (now table)) (length (now answers)) ⌝ }
-    requires { ⌜ now table ≡ replicate (length (now table)) 0 ⌝ }
-    requires { ⌜ now scratch ≡ replicate (length (now scratch)) 0 ⌝ }
+    requires { ⌜ Admitted (now words) l (now asks) (length (now table)) (length (now answers)) × (now table ≡ replicate (length (now table)) 0)
+        × (now scratch ≡ replicate (length (now scratch)) 0) ⌝ }
     ensures { λ r. ⌜ Answered (problemOf (now (words .entry))) (now (asks .entry)) (now (answers .entry)) (now (answers .exit)) (now (table .exit)) ⌝ }
     ensures { λ r. ⌜ length (now (table .exit)) ≡ length (now (table .entry)) ⌝ }
 {
-    let clashes = relaxation::clashes(words, l);
-    let prices = prices::rounds(words, l, &clashes, scratch);
-    let costs = dual::costs(words, l, &prices);
-    let roots = dual::roots(words, l, &prices, &clashes, scratch);
-    answer_each(
-        words,
-        l,
-        &prices,
-        &clashes,
-        &costs,
-        &roots,
-        asks,
-        nothing(),
-        answers,
-        table,
-        scratch,
-    );
+    let tables = tables_of(words, l, scratch);
+    let first = nothing();
+    answer_each(words, l, &tables, asks, first, answers, table, scratch);
 }
 
 // Every ask of a run that was not turned away. Table and scratch are emptied first, whatever they held.

@@ -1,2 +1,2 @@
--- what prices, pushes and steps keep to
+-- what the table, pushes and steps keep to
 mod RangeLaws

@@ -21,15 +21,16 @@ use Rattle.model.specs.Reading.{readOf}
 use Rattle.model.proofs.CommitmentLaws.{cheapest-right}
 use Rattle.model.proofs.DomainLaws.{permits-to}
 use Rattle.model.proofs.FileLaws.{ranged}
-use Rattle.instance.proofs.FiledLaws.{filed, weeks-are}
+use Rattle.instance.proofs.FiledLaws.{filed}
+use Rattle.sets.specs.Sets.{SETS}
 use Rattle.commitment.proofs.ScoreLaws.{served-small}
 use Rattle.quotes.specs.Quotes.{Quoted, none, quoted, denied, among, pickQuote, runQuote, startQuote, upkeepQuote}
 use Rattle.quotes.proofs.QuoteLaws.{among-some, among-most}
 
--- no refusal; a number of 16 bits, and a cost below 2 ^ 24
+-- no refusal; the number of a run, and a cost below 2 ^ 24
 abbrev pub Bounded : Quoted → Type 0
 Bounded none = Unit
-Bounded (quoted number cost) = (number < 65536) × (cost < 16777216)
+Bounded (quoted number cost) = (number < SETS) × (cost < 16777216)
 Bounded (denied number place) = ⊥
 
 module _ (ws : List ℕ) (e : readOf ws ≡ accepted) where
@@ -54,7 +55,7 @@ module _ (ws : List ℕ) (e : readOf ws ≡ accepted) where
       by true q =
           let some = among-some (problemOf ws .weeks) week q in
           let most = among-most (problemOf ws .weeks) week q in
-          let h : week - 1 < layoutOf ws .weeks = omega (arith, weeks-are ws (layoutOf ws) (filed ws (layoutOf ws) e refl)) in
+          let h : week - 1 < layoutOf ws .weeks = omega (arith, filed ws (layoutOf ws) e refl .weeks-are) in
           week-bounded (week - 1) out h (cheapestRun (problemOf ws) (week - 1) (has out)) (cheapest-right (problemOf ws) (week - 1) (has out))
 
   upkeep-small : (i start : ℕ) → i < problemOf ws .units → upkeep (problemOf ws) i start ≤ 13000000

@@ -11,11 +11,11 @@ use Rattle.sums.proofs.LoopLaws.{list-next, list-ended}
 use Rattle.model.specs.declared.Layout.{Layout}
 use Rattle.model.specs.Problem.{Problem}
 use Rattle.model.specs.Words.{problemOf}
-use Rattle.model.specs.Commitment.{leastCost}
+use Rattle.model.specs.Commitment.{leastCost, NO_RUN}
 use Rattle.model.specs.Verdict.{accepted, refused}
 use Rattle.model.specs.Reading.{readOf}
+use Rattle.sets.specs.Sets.{SETS}
 use Rattle.instance.specs.Filed.{Filed}
-use Rattle.instance.proofs.FiledLaws.{weeks-are}
 use Rattle.decoder.specs.declared.Verdict.{Verdict}
 use Rattle.decoder.specs.declared.Verdict.the-variants.{Accepted, Refused}
 use Rattle.decoder.specs.Answers.{verdictOf}
@@ -24,24 +24,22 @@ use Rattle.quotes.proofs.QuoteLaws.{among-zero, among-beyond, among-in}
 
 -- ---- one query
 
-module _ (ws : List ℕ) (l : Layout) (query v : ℕ) (f : Filed ws l) (is : v ≡ query) where
+module _ (ws : List ℕ) (l : Layout) (query week : ℕ) (f : Filed ws l) (is : week ≡ query / SETS) where
   -- there is no week 0
-  pub query-zero : v / 65536 ≡ 0 → 268435456 ≡ queryCost (problemOf ws) query
+  pub query-zero : week ≡ 0 → NO_RUN ≡ queryCost (problemOf ws) query
   unfolding queryCost
-  query-zero e = rw (← is, among-zero (problemOf ws .weeks) (v / 65536) e)
+  query-zero e = rw (← is, among-zero (problemOf ws .weeks) week e)
 
   -- nor one past the last
-  pub query-beyond : l .weeks < v / 65536 → 268435456 ≡ queryCost (problemOf ws) query
+  pub query-beyond : l .weeks < week → NO_RUN ≡ queryCost (problemOf ws) query
   unfolding queryCost
-  query-beyond h = rw (← is, among-beyond (problemOf ws .weeks) (v / 65536) (rw (weeks-are ws l f) h))
+  query-beyond h = rw (← is, among-beyond (problemOf ws .weeks) week (rw (f .weeks-are) h))
 
   -- a week of the file
-  pub query-some : (r : ℕ) → (v / 65536 ≡ 0 → ⊥) → v / 65536 ≤ l .weeks → r ≡ leastCost (problemOf ws) (v / 65536 - 1) (has (query % 65536))
+  pub query-some : (r : ℕ) → (week ≡ 0 → ⊥) → week ≤ l .weeks → r ≡ leastCost (problemOf ws) (week - 1) (has (query % SETS))
       → r ≡ queryCost (problemOf ws) query
   unfolding queryCost
-  query-some r z h e =
-      let m : v / 65536 ≤ problemOf ws .weeks = rw (weeks-are ws l f) h in
-      rw (← is) (rw (among-in (problemOf ws .weeks) (v / 65536) z m) (rw (← is) at e))
+  query-some r z h e = rw (← is, among-in (problemOf ws .weeks) week z (rw (f .weeks-are) h)) e
 
 -- ---- the list
 

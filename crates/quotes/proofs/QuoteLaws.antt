@@ -20,7 +20,7 @@ use Rattle.model.specs.Reading.{readOf}
 use Rattle.model.proofs.CommitmentLaws.{cheapest-picked, none-picked}
 use Rattle.instance.specs.declared.Euro.{Euro}
 use Rattle.instance.specs.Filed.{Filed}
-use Rattle.instance.proofs.FiledLaws.{filed, weeks-are, units-are}
+use Rattle.instance.proofs.FiledLaws.{filed}
 use Rattle.overhaul.specs.Range.{StartRange}
 use Rattle.decoder.specs.declared.Verdict.{Verdict}
 use Rattle.decoder.specs.declared.Verdict.the-variants.{Accepted, Refused}
@@ -64,11 +64,11 @@ module _ (ws : List ℕ) (l : Layout) (week out : ℕ) (f : Filed ws l) where
   -- nor one past the last
   pub run-beyond : l .weeks < week → none ≡ runQuote (problemOf ws) week out
   unfolding runQuote
-  run-beyond h = rw (among-beyond (problemOf ws .weeks) week (rw (weeks-are ws l f) h))
+  run-beyond h = rw (among-beyond (problemOf ws .weeks) week (rw (f .weeks-are) h))
 
   module _ (found : Found) (z : week ≡ 0 → ⊥) (h : week ≤ l .weeks) (a : Answers (problemOf ws) (week - 1) (has out) found) where
     inside : among (problemOf ws .weeks) week ≡ true
-    inside = among-in (problemOf ws .weeks) week z (rw (weeks-are ws l f) h)
+    inside = among-in (problemOf ws .weeks) week z (rw (f .weeks-are) h)
 
     -- no run meets the demand
     pub run-none : found ≡ Nothing → none ≡ runQuote (problemOf ws) week out
@@ -101,13 +101,13 @@ module _ (ws : List ℕ) (l : Layout) (unit start : ℕ) (f : Filed ws l) where
   -- nor one past the last
   pub over-beyond : l .units < unit → none ≡ upkeepQuote (problemOf ws) unit start
   unfolding upkeepQuote
-  over-beyond h = rw (among-beyond (problemOf ws .units) unit (rw (units-are ws l f) h))
+  over-beyond h = rw (among-beyond (problemOf ws .units) unit (rw (f .units-are) h))
 
   -- one of the file's
   pub over-some : (q : Quoted) → (unit ≡ 0 → ⊥) → unit ≤ l .units → q ≡ startQuote (problemOf ws) (unit - 1) start
       → q ≡ upkeepQuote (problemOf ws) unit start
   unfolding upkeepQuote
-  over-some q z h e = rw (among-in (problemOf ws .units) unit z (rw (units-are ws l f) h)) e
+  over-some q z h e = rw (among-in (problemOf ws .units) unit z (rw (f .units-are) h)) e
 
 module _ (ws : List ℕ) (i start first last : ℕ) (range : StartRange (problemOf ws) i first last) where
   -- a start before the first

@@ -13,6 +13,7 @@ use Rattle.sums.specs.NumSet.{NumSet, has}
 use Rattle.model.specs.Problem.{Problem}
 use Rattle.model.specs.Domain.{permitted}
 use Rattle.model.specs.Plan.{upkeep}
+use Rattle.sets.specs.Sets.{SETS}
 use Rattle.model.specs.Commitment.{runCost, Pick, nothing, picked, cheapestRun, NO_RUN, leastCost}
 use Rattle.model.specs.Verdict.{Verdict, accepted, refused, andThen}
 use Rattle.model.specs.Reading.{readOf}
@@ -51,12 +52,12 @@ unfoldable pub upkeepQuote : Problem → (unit start : ℕ) → Quoted
 unfolding among startQuote
 upkeepQuote p unit start = if (among (p .units) unit) (startQuote p (unit - 1) start) none
 
--- ---- a list of queries, each a week times 65,536 and the number of the units out
+-- ---- a list of queries, each a week times SETS and the number of the units out
 
 -- what the cheapest run costs; a week that the file does not have has none
 unfoldable pub queryCost : Problem → ℕ → ℕ
 unfolding among
-queryCost p q = if (among (p .weeks) (q / 65536)) (leastCost p (q / 65536 - 1) (has (q % 65536))) NO_RUN
+queryCost p q = if (among (p .weeks) (q / SETS)) (leastCost p (q / SETS - 1) (has (q % SETS))) NO_RUN
 
 -- the cost that query k of a list asks for
 unfoldable pub costAt : Problem → List ℕ → ℕ → ℕ

@@ -2,6 +2,8 @@
 // file does not have, a week past the last or a start that is not permitted, has no quote.
 use decoder::Verdict;
 use model::Layout;
+use model::NO_RUN;
+use sets::SETS;
 ghost use mathlib.Core.Path.{_≡_};
 ghost use Prim.Native.Nat.{_<_, _≤_};
 ghost use lib.ListN.{length};
@@ -93,22 +95,21 @@ pub fn upkeep(words: &[u32], unit: usize, start: usize) -> Quote
     }
 }
 
-// The cost that a query asks for: a week times 65,536 and the units out.
+// The cost that a query asks for: a week times SETS and the units out.
 fn query_cost(words: &[u32], l: Layout, query: u32, scratch: &mut [u32]) -> u32
     requires { ⌜ Filed (now words) l ⌝ }
     requires { ⌜ Right (problemOf (now words)) (now scratch) ⌝ }
     ensures answer { λ r. ⌜ r ≡ queryCost (problemOf (now (words .entry))) query ⌝ }
     ensures kept { λ r. ⌜ Right (problemOf (now (words .entry))) (now (scratch .exit)) ⌝ }
 {
-    let asked = instance::wide(query) / 65536;
+    let asked = words::widen(query / SETS);
     if asked == 0 {
-        // 2^28 stands for no run.
-        return 268435456;
+        return NO_RUN as u32;
     }
     if l.weeks < asked {
-        return 268435456;
+        return NO_RUN as u32;
     }
-    let cost = memo::least_cost(words, l, asked - 1, query % 65536, scratch);
+    let cost = memo::least_cost(words, l, asked - 1, query % SETS, scratch);
     cost.0 as u32
 }
 
@@ -125,7 +126,7 @@ fn write(words: &[u32], l: Layout, queries: &[u32], scratch: &mut [u32], costs: 
     }
 }
 
-// Writes what the cheapest run of each queried week costs with the queried units out, 2^28 where there is none, into the lent words and keeps
+// Writes what the cheapest run of each queried week costs with the queried units out, NO_RUN where there is none, into the lent words and keeps
 // any beyond; or refuses and changes nothing: the file's refusal, then 17 where the words are fewer than the queries. The scratch may have any
 // length and hold anything.
 pub fn week_costs(words: &[u32], queries: &[u32], scratch: &mut [u32], costs: &mut [u32]) -> Verdict

@@ -15,46 +15,44 @@ use Rattle.sums.specs.NumSet.{NumSet, pick, away, has}
 use Rattle.sums.proofs.NumSetLaws.{sum-over}
 use Rattle.sums.proofs.LoopLaws.{zeros-at, place-next}
 use Rattle.model.specs.declared.Layout.{Layout}
+use Rattle.model.specs.Words.{problemOf}
 use Rattle.instance.specs.Filed.{Filed}
-use Rattle.relaxation.specs.Relaxed.{priceIn, Prices}
+use Rattle.tables.specs.Tables.{MOST_PRICE, priceIn, Prices, Priced}
+use Rattle.tables.proofs.TableLaws.{price-most}
 use Rattle.relaxation.specs.Choosing.{notOut, Left, Spare}
 
 -- ---- one unit at a time
 
--- a price fits a word
-pub price-fits : (xs : List ℕ) (k : ℕ) → Prices xs → getD xs k 0 < 18446744073709551616
-price-fits xs k h = omega (arith, h .small k)
-
 -- a unit that is out adds nothing
-pub part-out : (a : NumSet) (f : ℕ → ℕ) (i : ℕ) (b : Bool) → b ≡ a i → b ≡ true → 0 ≡ pick (away a) f i
+pub added-out : (a : NumSet) (f : ℕ → ℕ) (i sum : ℕ) (b : Bool) → b ≡ a i → b ≡ true → sum ≡ sum + pick (away a) f i
 unfolding pick away
-part-out a f i b is e = rw (← is, e)
+added-out a f i sum b is e = rw (← is, e) (omega arith)
 
 -- another its price
-pub part-in : (a : NumSet) (f : ℕ → ℕ) (i r : ℕ) (b : Bool) → b ≡ a i → b ≡ false → r ≡ f i → r ≡ pick (away a) f i
+pub added-in : (a : NumSet) (f : ℕ → ℕ) (i sum v : ℕ) (b : Bool) → b ≡ a i → b ≡ false → v ≡ f i → sum + v ≡ sum + pick (away a) f i
 unfolding pick away
-part-in a f i r b is e v = rw (← is, e) v
+added-in a f i sum v b is e own = rw (← is, e, own)
 
 -- as many prices as units
-pub not-out-small : (xs : List ℕ) (t : ℕ) (a : NumSet) (k : ℕ) → Prices xs → notOut (priceIn xs) t a k ≤ k * 4194304
-unfolding notOut priceIn
-not-out-small xs t a k h = sum-over k 4194304 (away a) (priceIn xs t) (λ i l. h .small (t * 16 + i))
+pub not-out-small : (xs : List ℕ) (t : ℕ) (a : NumSet) (k : ℕ) → Prices xs → notOut (priceIn xs) t a k ≤ k * MOST_PRICE
+unfolding notOut
+not-out-small xs t a k h = sum-over k MOST_PRICE (away a) (priceIn xs t) (λ i l. price-most xs t i h)
 
 -- nothing yet
 pub left-start : (u : ℕ → ℕ → ℕ) (t : ℕ) (a : NumSet) → Left u t a 0 (replicate 17 0)
 unfolding notOut sumTo
 left-start u t a = record { sums = λ k l. let z : k ≡ 0 = omega arith in rw z (zeros-at 17 0) }
 
--- a sum of the table fits a word, with a price more
-pub left-fits : (xs table : List ℕ) (t n units v : ℕ) (a : NumSet) → Prices xs → Left (priceIn xs) t a n table → n < units → units ≤ 16
-    → v ≤ 4194304 → getD table n 0 + v < 18446744073709551616
-left-fits xs table t n units v a h left b few m = omega (arith, left .sums n (omega arith), not-out-small xs t a n h)
+-- a sum of the table is small, with a unit more to come
+pub left-fits : (xs table : List ℕ) (t n units : ℕ) (a : NumSet) → Prices xs → Left (priceIn xs) t a n table → n < units → units ≤ 16
+    → getD table n 0 ≤ 67108864
+left-fits xs table t n units a h left b few = omega (arith, left .sums n (omega arith), not-out-small xs t a n h)
 
 -- one unit more
-pub left-next : (u : ℕ → ℕ → ℕ) (t : ℕ) (a : NumSet) (n units v r : ℕ) (table : List ℕ) → Left u t a n table → length table ≡ 17 → n < units
-    → units ≤ 16 → v ≡ pick (away a) (u t) n → r ≡ getD table n 0 + v → Left u t a (n + 1) (set table (n + 1) r)
+pub left-next : (u : ℕ → ℕ → ℕ) (t : ℕ) (a : NumSet) (n units r : ℕ) (table : List ℕ) → Left u t a n table → length table ≡ 17 → n < units
+    → units ≤ 16 → r ≡ getD table n 0 + pick (away a) (u t) n → Left u t a (n + 1) (set table (n + 1) r)
 unfolding notOut sumTo
-left-next u t a n units v r table left long b few is sum = record {
+left-next u t a n units r table left long b few sum = record {
   sums = λ k l. place-next (λ j w. w ≡ notOut u t a j) table (n + 1) r (omega arith) new (λ j m. left .sums j (omega arith)) k (omega arith);
 }
   where
@@ -82,9 +80,9 @@ pub left-all : (u : ℕ → ℕ → ℕ) (t n : ℕ) (a : NumSet) (left : List �
 left-all u t n a left l = l .sums n (le-refl n)
 
 -- of 16 units at most
-pub left-all-small : (ws xs left : List ℕ) (l : Layout) (t : ℕ) (a : NumSet) → Filed ws l → Prices xs → Left (priceIn xs) t a (l .units) left
+pub left-all-small : (ws xs left : List ℕ) (l : Layout) (t : ℕ) (a : NumSet) → Filed ws l → Priced (problemOf ws) xs → Left (priceIn xs) t a (l .units) left
     → getD left (l .units) 0 ≤ 67108864
-left-all-small ws xs left l t a f h s = left-small xs left t (l .units) (l .units) a h (f .units-most) s (le-refl (l .units))
+left-all-small ws xs left l t a f h s = left-small xs left t (l .units) (l .units) a (h .prices) (f .units-most) s (le-refl (l .units))
 
 -- it bounds the prices of the units not out
 pub spare-start : (xs left : List ℕ) (t n out own : ℕ) → Prices xs → n ≤ 16 → Left (priceIn xs) t (has out) n left → own ≡ out

@@ -1,7 +1,5 @@
 -- what a week is worth, and a memory of it
 pub mod ValueLaws
--- the table of excluded pairs
-pub mod ClashLaws
 -- sets of units out: prices of the others, and who may be out together
 mod OutLaws
 -- what a week is worth at least, one further unit at a time

@@ -15,15 +15,15 @@ use Rattle.sums.proofs.LogicLaws.{true-false, not-so}
 use Rattle.model.specs.declared.Layout.{Layout}
 use Rattle.model.specs.Problem.{Problem}
 use Rattle.model.specs.Words.{problemOf}
-use Rattle.model.specs.Commitment.{fullLeast}
+use Rattle.model.specs.Commitment.{NO_RUN, fullLeast}
 use Rattle.instance.specs.Filed.{Filed}
-use Rattle.instance.proofs.FiledLaws.{units-are}
+use Rattle.memo.specs.Memo.{Right}
 use Rattle.relaxation.specs.declared.Node.{Node}
-use Rattle.relaxation.specs.Relaxed.{priceIn, Prices}
-use Rattle.relaxation.specs.Clashes.{Clashes}
-use Rattle.relaxation.specs.Choosing.{notOut, Floor, Shut, Roomed, Known, Spare, Over, Child}
+use Rattle.tables.specs.Tables.{priceIn, partnersIn, Priced}
+use Rattle.relaxation.specs.Relaxed.{WeekAt}
+use Rattle.relaxation.specs.Choosing.{notOut, Floor, Lowers, Shut, Roomed, Known, Left, Spare, Over, Child, WithUnit, Beginning, Begun, Choosing}
 use Rattle.relaxation.proofs.OutLaws.{Joins, joins-it, joins-old, joins-other, not-out-less, not-out-joined, headcount-joined, needless-more}
-use Rattle.relaxation.proofs.LeftLaws.{not-out-small}
+use Rattle.relaxation.proofs.LeftLaws.{not-out-small, left-all, left-all-small, spare-start}
 use Rattle.relaxation.proofs.ShutLaws.{more-of, shut-joined}
 use Rattle.relaxation.proofs.FloorLaws.{floor-cut, floor-own, pass-needless, floor-joined, floor-full}
 
@@ -41,33 +41,52 @@ module _ (left : List ℕ) (i low : ℕ) (y : Node) (b : Bool) (is : b ≡ has (
 
 -- ---- what is known
 
--- of the set to start from
-pub known-start : (ws : List ℕ) (l : Layout) (u : ℕ → ℕ → ℕ) (t : ℕ) (y : Node) → Filed ws l → y .rest .0 ≡ notOut u t (has (y .out)) (l .units)
-    → y .rest .0 ≤ 67108864 → (cost : ℕ) → cost ≡ fullLeast (problemOf ws) t (has (y .out)) → cost ≤ 268435456 → y .value .0 ≡ cost + y .rest .0
-    → Roomed (problemOf ws) (has (y .out)) (y .room) → Shut (problemOf ws) u t (has (y .out)) (problemOf ws .units) (y .shut)
-    → Known (problemOf ws) u t y
-known-start ws l u t y f rest few cost e small value room shut = record {
-  rest = rest ∙ ap (notOut u t (has (y .out))) (sym (units-are ws l f));
-  value = value ∙ ap (λ (c : ℕ). c + y .rest .0) e;
-  small = omega arith;
-  room = room;
-  shut = shut;
-}
+-- the prices left are no more than 16
+beginning-rest : (ws : List ℕ) (l : Layout) (xs left : List ℕ) (t out cost : ℕ) → Beginning ws l xs left t out cost
+    → (getD left (l .units) 0 ≡ notOut (priceIn xs) t (has out) (problemOf ws .units)) × (getD left (l .units) 0 ≤ 67108864)
+beginning-rest ws l xs left t out cost b =
+    let f = b .at .filed in (
+      left-all (priceIn xs) t (l .units) (has out) left (b .sums) ∙ ap (notOut (priceIn xs) t (has out)) (sym (f .units-are)),
+      left-all-small ws xs left l t (has out) f (b .at .priced) (b .sums),
+    )
 
-module _ (ws xs : List ℕ) (l : Layout) (t i : ℕ) (y : Node) (f : Filed ws l) (h : i < l .units) (prices : Prices xs)
+-- so the sum with the cheapest run fits
+pub beginning-small : (ws : List ℕ) (l : Layout) (xs left : List ℕ) (t out cost : ℕ) → Beginning ws l xs left t out cost
+    → cost + getD left (l .units) 0 < 18446744073709551616
+beginning-small ws l xs left t out cost b = omega (arith, b .small, beginning-rest ws l xs left t out cost b .1)
+
+-- just these units
+pub begun-of : (ws : List ℕ) (l : Layout) (xs left : List ℕ) (t out cost : ℕ) (y : Node) → Beginning ws l xs left t out cost → y .out ≡ out
+    → y .rest .0 ≡ getD left (l .units) 0 → y .value .0 ≡ cost + y .rest .0 → Roomed (problemOf ws) (has (y .out)) (y .room)
+    → Shut (problemOf ws) (priceIn xs) t (has (y .out)) (problemOf ws .units) (y .shut) → Begun (problemOf ws) (priceIn xs) t out cost y
+begun-of ws l xs left t out cost y b same is sum room shut =
+    let rest = beginning-rest ws l xs left t out cost b in
+    record {
+      known = record {
+        rest = is ∙ rest .0 ∙ ap (λ (o : ℕ). notOut (priceIn xs) t (has o) (problemOf ws .units)) (sym same);
+        value = sum ∙ ap (λ (c : ℕ). c + y .rest .0) (b .is ∙ ap (λ (o : ℕ). fullLeast (problemOf ws) t (has o)) (sym same));
+        small = omega (arith, b .small, rest .1);
+        room = room;
+        shut = shut;
+      };
+      same = same;
+      value = sum ∙ ap (λ (x : ℕ). cost + x) (is ∙ rest .0);
+    }
+
+module _ (ws xs : List ℕ) (l : Layout) (t i : ℕ) (y : Node) (f : Filed ws l) (h : i < l .units) (priced : Priced (problemOf ws) xs)
     (known : Known (problemOf ws) (priceIn xs) t y) where
   in-units : i < problemOf ws .units
-  in-units = omega (arith, units-are ws l f)
+  in-units = omega (arith, f .units-are)
 
   -- the rest is no more than 16 prices
   pub rest-small : y .rest .0 ≤ 67108864
   rest-small =
-      let few : problemOf ws .units ≤ 16 = omega (arith, units-are ws l f, f .units-most) in
-      omega (arith, known .rest, not-out-small xs t (has (y .out)) (problemOf ws .units) prices, mul-le-mul-right 4194304 few)
+      let few : problemOf ws .units ≤ 16 = omega (arith, f .units-are, f .units-most) in
+      omega (arith, known .rest, not-out-small xs t (has (y .out)) (problemOf ws .units) (priced .prices), mul-le-mul-right 4194304 few)
 
-  module _ (b : Bool) (tried : b ≡ false → has (y .shut) i ≡ false) (no-over : b ≡ false) where
+  module _ (tried : has (y .shut) i ≡ false) where
     not-in : has (y .out) i ≡ false
-    not-in = not-so (has (y .out) i) (λ e. true-false (sym (known .shut .own i in-units e) ∙ tried no-over))
+    not-in = not-so (has (y .out) i) (λ e. true-false (sym (known .shut .own i in-units e) ∙ tried))
 
     -- a unit to be tried is not out: its price is part of the rest
     pub price-in : priceIn xs t i ≤ y .rest .0
@@ -76,9 +95,8 @@ module _ (ws xs : List ℕ) (l : Layout) (t i : ℕ) (y : Node) (f : Filed ws l)
         let j : Joins (has (y .out)) i q = λ k. refl in
         omega (arith, known .rest, not-out-joined (priceIn xs) t (has (y .out)) q i (problemOf ws .units) in-units not-in j)
 
-    module _ (table : List ℕ) (out cost : ℕ) (z : Node) (join : (k : ℕ) → has out k ≡ (has (y .out) k || eqb k i))
-        (clashes : Clashes (problemOf ws) (l .units) table) (e : cost ≡ fullLeast (problemOf ws) t (has out)) (small : cost ≤ 268435456)
-        (child : Child (priceIn xs t i) (getD table i 0) i y out cost z) where
+    module _ (out cost : ℕ) (z : Node) (join : (k : ℕ) → has out k ≡ (has (y .out) k || eqb k i)) (e : cost ≡ fullLeast (problemOf ws) t (has out)) (small : cost ≤ NO_RUN)
+        (child : Child (priceIn xs t i) (partnersIn xs i) i y out cost z) where
       joined : Joins (has (y .out)) i (has (z .out))
       joined = rw (child .out-is) join
 
@@ -100,30 +118,70 @@ module _ (ws xs : List ℕ) (l : Layout) (t i : ℕ) (y : Node) (f : Filed ws l)
             };
             shut = record {
               needless =
-                  shut-joined p (priceIn xs) t (has (z .out)) i (y .shut) (getD table i 0) (z .shut)
+                  shut-joined p (priceIn xs) t (has (z .out)) i (y .shut) (partnersIn xs i) (z .shut)
                   (λ k m s. needless-more p (priceIn xs) t (has (y .out)) (has (z .out)) k (joins-old (has (y .out)) (has (z .out)) i joined) (known
                   .shut .needless k m s))
-                  in-units (joins-it (has (y .out)) (has (z .out)) i joined) (clashes .each i h) (child .shut);
+                  in-units (joins-it (has (y .out)) (has (z .out)) i joined) (priced .partners .each i in-units) (child .shut);
               own = λ k m s. by k m s (ℕ-discrete k i);
             };
           }
         where
           by : (k : ℕ) → k < problemOf ws .units → has (z .out) k ≡ true → Dec (k ≡ i) → has (z .shut) k ≡ true
-          by k m s (yes q) = more-of (y .shut) (getD table i 0) (z .shut) i (child .shut) k (inr q)
+          by k m s (yes q) = more-of (y .shut) (partnersIn xs i) (z .shut) i (child .shut) k (inr q)
           by k m s (no q) =
-              more-of (y .shut) (getD table i 0) (z .shut) i (child .shut) k
+              more-of (y .shut) (partnersIn xs i) (z .shut) i (child .shut) k
               (inl (known .shut .own k m (sym (joins-other (has (y .out)) (has (z .out)) i joined k q) ∙ s)))
 
+      -- as a whole
+      pub known-with : WithUnit (problemOf ws) (priceIn xs) t i y z
+      known-with = record { known = known-child; sets = joined }
+
 -- the table of prices left serves the set with it too
-pub spare-child : (u : ℕ → ℕ → ℕ) (t i n price clash out cost : ℕ) (left : List ℕ) (y z : Node) → Spare u t (has (y .out)) n left
-    → ((k : ℕ) → has out k ≡ (has (y .out) k || eqb k i)) → Child price clash i y out cost z → Spare u t (has (z .out)) n left
-spare-child u t i n price clash out cost left y z spare join child = record {
+spare-with : (p : Problem) (u : ℕ → ℕ → ℕ) (t i n : ℕ) (left : List ℕ) (y z : Node) → Spare u t (has (y .out)) n left → WithUnit p u t i y z
+    → Spare u t (has (z .out)) n left
+spare-with p u t i n left y z spare more = record {
   enough = λ k m. omega (
     arith,
     spare .enough k m,
-    not-out-less u t (has (y .out)) (has (z .out)) k (λ j l. joins-old (has (y .out)) (has (z .out)) i (rw (child .out-is) join) j),
+    not-out-less u t (has (y .out)) (has (z .out)) k (λ j l. joins-old (has (y .out)) (has (z .out)) i (more .sets) j),
   );
   small = spare .small;
+}
+
+-- a unit that is not passed over
+pub with-open : (b : Bool) (s i : ℕ) → (b ≡ false → has s i ≡ false) → b ≡ false → has s i ≡ false
+with-open b s i h e = h e
+
+-- ---- a choice that goes on
+
+-- from the set to start from
+pub choosing-start : (ws xs left memo : List ℕ) (l : Layout) (t out cost : ℕ) (y : Node) → WeekAt ws l xs t → Right (problemOf ws) memo
+    → Left (priceIn xs) t (has out) (l .units) left → Begun (problemOf ws) (priceIn xs) t out cost y → Choosing ws l xs left t y memo
+choosing-start ws xs left memo l t out cost y at right table begun = record {
+  at = at;
+  right = right;
+  known = begun .known;
+  spare = spare-start xs left t (l .units) out (y .out) (at .priced .prices) (at .filed .units-most) table (begun .same);
+}
+
+-- where the prices left are made
+pub beginning-of : (ws xs left : List ℕ) (l : Layout) (t out cost : ℕ) → WeekAt ws l xs t → Left (priceIn xs) t (has out) (l .units) left
+    → cost ≡ fullLeast (problemOf ws) t (has out) → cost < NO_RUN → Beginning ws l xs left t out cost
+beginning-of ws xs left l t out cost at table is small = record { at = at; sums = table; is = is; small = small }
+
+-- with a memory that has changed
+pub choosing-on : (ws xs left memo memo′ : List ℕ) (l : Layout) (t : ℕ) (y : Node) → Choosing ws l xs left t y memo → Right (problemOf ws) memo′
+    → Choosing ws l xs left t y memo′
+choosing-on ws xs left memo memo′ l t y c right = record { at = c .at; right = right; known = c .known; spare = c .spare }
+
+-- with unit i out as well
+pub choosing-with : (ws xs left memo memo′ : List ℕ) (l : Layout) (t i : ℕ) (y z : Node) → Choosing ws l xs left t y memo
+    → WithUnit (problemOf ws) (priceIn xs) t i y z → Right (problemOf ws) memo′ → Choosing ws l xs left t z memo′
+choosing-with ws xs left memo memo′ l t i y z c more right = record {
+  at = c .at;
+  right = right;
+  known = more .known;
+  spare = spare-with (problemOf ws) (priceIn xs) t i (l .units) left y z (c .spare) more;
 }
 
 -- ---- what it says of the bound
@@ -142,7 +200,7 @@ module _ (ws xs : List ℕ) (t : ℕ) (y : Node) (known : Known (problemOf ws) (
 
   module _ (l : Layout) (k : ℕ) (f : Filed ws l) (deep : k ≤ l .units) where
     deep-in : k ≤ problemOf ws .units
-    deep-in = omega (arith, units-are ws l f)
+    deep-in = omega (arith, f .units-are)
 
     -- the crews allow no more
     pub choose-full : (low : ℕ) → low ≤ y .value .0 → y .room ≡ 0 → Floor (problemOf ws) (priceIn xs) t (has (y .out)) k low
@@ -158,22 +216,27 @@ module _ (ws xs : List ℕ) (t : ℕ) (y : Node) (known : Known (problemOf ws) (
 
   -- a unit passed over
   pub choose-over : (left : List ℕ) (l : Layout) (i low : ℕ) → Filed ws l → i < l .units → Spare (priceIn xs) t (has (y .out)) (l .units) left
-      → (b : Bool) → (b ≡ true → Over left i y low) → b ≡ true → Floor (problemOf ws) (priceIn xs) t (has (y .out)) i low
-      → Floor (problemOf ws) (priceIn xs) t (has (y .out)) (i + 1) low
-  choose-over left l i low f h spare b over e floor = by (over e .why)
+      → (b : Bool) → (b ≡ true → Over left i y low) → b ≡ true → Lowers (problemOf ws) (priceIn xs) t (has (y .out)) i low low
+  choose-over left l i low f h spare b over e = record { less = omega arith; next = by (over e .why) }
     where
-      by : (has (y .shut) i ≡ true) ⊎ (low + getD left (i + 1) 0 ≤ y .value .0) → Floor (problemOf ws) (priceIn xs) t (has (y .out)) (i + 1) low
-      by (inl s) =
-          let m : i < problemOf ws .units = omega (arith, units-are ws l f) in
+      by : (has (y .shut) i ≡ true) ⊎ (low + getD left (i + 1) 0 ≤ y .value .0) → Floor (problemOf ws) (priceIn xs) t (has (y .out)) i low
+          → Floor (problemOf ws) (priceIn xs) t (has (y .out)) (i + 1) low
+      by (inl s) floor =
+          let m : i < problemOf ws .units = omega (arith, f .units-are) in
           pass-needless (problemOf ws) (priceIn xs) t (has (y .out)) i low floor m (known .shut .needless i m s)
-      by (inr c) = choose-cut l (i + 1) f (omega arith) left spare low true (λ z. c) refl
+      by (inr c) floor = choose-cut l (i + 1) f (omega arith) left spare low true (λ z. c) refl
 
 -- a unit tried
-pub choose-tried : (p : Problem) (u : ℕ → ℕ → ℕ) (t i low r price clash out cost : ℕ) (y z : Node) → Floor p u t (has (y .out)) i low
-    → ((k : ℕ) → has out k ≡ (has (y .out) k || eqb k i)) → Child price clash i y out cost z → r ≤ low → Floor p u t (has (z .out)) i r
-    → Floor p u t (has (y .out)) (i + 1) r
-choose-tried p u t i low r price clash out cost y z floor join child l high =
-    floor-joined p u t (has (y .out)) i low floor (has (z .out)) r (rw (child .out-is) join) l high
+pub choose-tried : (p : Problem) (u : ℕ → ℕ → ℕ) (t i low r : ℕ) (y z : Node) → WithUnit p u t i y z → r ≤ low → Floor p u t (has (z .out)) i r
+    → Lowers p u t (has (y .out)) i low r
+choose-tried p u t i low r y z more l high = record {
+  less = l;
+  next = λ floor. floor-joined p u t (has (y .out)) i low floor (has (z .out)) r (more .sets) l high;
+}
+
+-- so one unit more
+pub choose-next : (p : Problem) (u : ℕ → ℕ → ℕ) (t i low r : ℕ) (o : NumSet) → Floor p u t o i low → Lowers p u t o i low r → Floor p u t o (i + 1) r
+choose-next p u t i low r o floor lowers = lowers .next floor
 
 -- all units tried
 pub choose-ended : (p : Problem) (u : ℕ → ℕ → ℕ) (t i k low : ℕ) (o : NumSet) → Floor p u t o i low → i ≤ k → k ≤ i → Floor p u t o k low

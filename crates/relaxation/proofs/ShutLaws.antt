@@ -21,8 +21,7 @@ use Rattle.model.specs.Rules.{headcount}
 use Rattle.model.specs.Words.{problemOf}
 use Rattle.instance.specs.Filed.{Filed}
 use Rattle.instance.proofs.FiledLaws.{units-are}
-use Rattle.relaxation.specs.Relaxed.{priceIn}
-use Rattle.relaxation.specs.Clashes.{Clash, Clashes}
+use Rattle.tables.specs.Tables.{priceIn, partnersIn, PartnersOf, Priced}
 use Rattle.relaxation.specs.Choosing.{Needless, Shut, Roomed}
 use Rattle.relaxation.proofs.OutLaws.{apart-barred}
 
@@ -58,6 +57,11 @@ pub more-is : (s c w r i : ℕ) → ((k : ℕ) → has w k ≡ (has s k || eqb k
     → (k : ℕ) → has r k ≡ ((has s k || eqb k i) || has c k)
 more-is s c w r i a b k = b k ∙ ap (λ (x : Bool). x || has c k) (a k)
 
+-- the partners as the table has them
+pub more-own : (s c d r i : ℕ) → c ≡ d → ((k : ℕ) → has r k ≡ ((has s k || eqb k i) || has c k))
+    → (k : ℕ) → has r k ≡ ((has s k || eqb k i) || has d k)
+more-own s c d r i e h = subst (λ (x : ℕ). (k : ℕ) → has r k ≡ ((has s k || eqb k i) || has x k)) e h
+
 -- a member of a set with unit i and the units of c more
 more-at : (s c r i : ℕ) → ((k : ℕ) → has r k ≡ ((has s k || eqb k i) || has c k)) → (k : ℕ) → has r k ≡ true
     → (has s k ≡ true) ⊎ ((k ≡ i) ⊎ (has c k ≡ true))
@@ -79,32 +83,32 @@ shut-start p u t o = record { needless = λ i l e. true-false (sym e ∙ zero-ha
 
 -- a unit that is out, and its partners
 pub shut-joined : (p : Problem) (u : ℕ → ℕ → ℕ) (t : ℕ) (o : NumSet) (i s c r : ℕ) → ((k : ℕ) → k < p .units → has s k ≡ true → Needless p u t o k)
-    → i < p .units → o i ≡ true → Clash p i c → ((k : ℕ) → has r k ≡ ((has s k || eqb k i) || has c k))
+    → i < p .units → o i ≡ true → PartnersOf p i c → ((k : ℕ) → has r k ≡ ((has s k || eqb k i) || has c k))
     → (k : ℕ) → k < p .units → has r k ≡ true → Needless p u t o k
-shut-joined p u t o i s c r old l it clash is k m e = by (more-at s c r i is k e)
+shut-joined p u t o i s c r old l it partners is k m e = by (more-at s c r i is k e)
   where
     by : (has s k ≡ true) ⊎ ((k ≡ i) ⊎ (has c k ≡ true)) → Needless p u t o k
     by (inl h) = old k m h
     by (inr (inl z)) = inl (ap o z ∙ it)
-    by (inr (inr h)) = inr (inr (apart-barred p o i k l it (sym (clash .sets k) ∙ h)))
+    by (inr (inr h)) = inr (inr (apart-barred p o i k l it (sym (partners .sets k) ∙ h)))
 
-module _ (ws xs table : List ℕ) (l : Layout) (t out i s r : ℕ) (f : Filed ws l) (h : i < l .units)
+module _ (ws xs : List ℕ) (l : Layout) (t out i s r : ℕ) (f : Filed ws l) (h : i < l .units)
     (old : Shut (problemOf ws) (priceIn xs) t (has out) i s) where
   inside : i < problemOf ws .units
   inside = omega (arith, units-are ws l f)
 
   -- unit i is out
-  pub shut-out : (b : Bool) → b ≡ has out i → b ≡ true → Clashes (problemOf ws) (l .units) table
-      → ((k : ℕ) → has r k ≡ ((has s k || eqb k i) || has (getD table i 0) k)) → Shut (problemOf ws) (priceIn xs) t (has out) (i + 1) r
-  shut-out b is e clashes more = record {
+  pub shut-out : (b : Bool) (c : ℕ) → b ≡ has out i → b ≡ true → Priced (problemOf ws) xs → c ≡ partnersIn xs i
+      → ((k : ℕ) → has r k ≡ ((has s k || eqb k i) || has c k)) → Shut (problemOf ws) (priceIn xs) t (has out) (i + 1) r
+  shut-out b c is e priced own more = record {
     needless =
-        shut-joined (problemOf ws) (priceIn xs) t (has out) i s (getD table i 0) r (old .needless) inside (sym is ∙ e) (clashes .each i h) more;
+        shut-joined (problemOf ws) (priceIn xs) t (has out) i s c r (old .needless) inside (sym is ∙ e) (rw own (priced .partners .each i inside)) more;
     own = λ k m z. by k m z (ℕ-discrete k i);
   }
     where
       by : (k : ℕ) → k < i + 1 → has out k ≡ true → Dec (k ≡ i) → has r k ≡ true
-      by k m z (yes q) = more-of s (getD table i 0) r i more k (inr q)
-      by k m z (no q) = more-of s (getD table i 0) r i more k (inl (old .own k (omega arith) z))
+      by k m z (yes q) = more-of s c r i more k (inr q)
+      by k m z (no q) = more-of s c r i more k (inl (old .own k (omega arith) z))
 
   -- those of `out` below i + 1 are those below i where unit i is not out
   lower : (b : Bool) → b ≡ has out i → b ≡ false → (k : ℕ) → k < i + 1 → has out k ≡ true → has s k ≡ true

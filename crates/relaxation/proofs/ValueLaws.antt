@@ -3,6 +3,7 @@
 use Prim.Native.Nat.{ℕ, _+_, _*_, _≤_, _<_}
 use mathlib.Core.Path.{_≡_, sym, _∙_, subst}
 use mathlib.Core.List.{List}
+use native.Mathlib.Nat.{mul-le-mul-right}
 use native.Mathlib.Omega.{arith}
 use lib.ListN.{getD, replicate}
 use Rattle.sums.specs.NumSet.{NumSet, has}
@@ -12,7 +13,6 @@ use Rattle.model.specs.Words.{problemOf}
 use Rattle.model.specs.Commitment.{Pick, nothing, picked, cheapestRun, NO_RUN, fullCost, pickCost, fullLeast}
 use Rattle.model.proofs.CommitmentLaws.{full-lacks}
 use Rattle.instance.specs.Filed.{Filed}
-use Rattle.instance.proofs.FiledLaws.{units-are}
 use Rattle.commitment.proofs.ScoreLaws.{run-small}
 use Rattle.memo.specs.declared.Kept.{Kept}
 use Rattle.memo.specs.declared.Kept.the-variants.{Word}
@@ -20,15 +20,18 @@ use Rattle.memo.specs.Memo.{Entry, Present, Looked, Wrote, OTHERS, Others, keyO
 use Rattle.memo.proofs.EntryLaws.{empty-key, right-empty, right-kept, wrote-all}
 use Rattle.blame.specs.Priced.{WeekLeast}
 use Rattle.blame.proofs.BoundLaws.{week-plain}
-use Rattle.relaxation.specs.Relaxed.{Value, valueKey, Values, Recalls}
-use Rattle.relaxation.specs.Choosing.{Floor}
+use Rattle.tables.specs.Tables.{MOST_PRICE, priceIn}
+use Rattle.relaxation.specs.Relaxed.{WeekAt, Value, valueKey, Values, Recalls}
+use Rattle.relaxation.specs.declared.Node.{Node}
+use Rattle.relaxation.specs.Choosing.{notOut, Floor, Begun}
+use Rattle.relaxation.proofs.LeftLaws.{not-out-small}
 use Rattle.relaxation.proofs.FloorLaws.{floor-week}
 
 -- ---- a value
 
 -- the cheapest run's cost is one, at any prices
 pub value-plain : (ws : List ℕ) (l : Layout) (u : ℕ → ℕ → ℕ) (t out v : ℕ) → Filed ws l → t < l .weeks → v ≡ fullLeast (problemOf ws) t (has out)
-    → v ≤ 268435456 → Value (problemOf ws) u t (has out) v
+    → v ≤ NO_RUN → Value (problemOf ws) u t (has out) v
 value-plain ws l u t out v f h e m =
     let p = problemOf ws in
     record {
@@ -49,22 +52,34 @@ run-cheap ws l t a f h = by (cheapestRun (problemOf ws) t a)
     by (picked r) b = run-small ws l t f h r
 
 -- a lower bound for all sets is one too, where there is a run; prices cannot bring it to what stands for none
-pub value-chosen : (ws : List ℕ) (l : Layout) (u : ℕ → ℕ → ℕ) (t out own cost rest value v : ℕ) → Filed ws l → t < l .weeks
-    → cost ≡ fullLeast (problemOf ws) t (has out) → cost < 268435456 → rest ≤ 67108864 → own ≡ out → value ≡ cost + rest → v ≤ value
-    → Floor (problemOf ws) u t (has own) (l .units) v → Value (problemOf ws) u t (has out) v
-value-chosen ws l u t out own cost rest value v f h e less few same sum low floor =
+pub value-chosen : (ws xs : List ℕ) (l : Layout) (t out cost v : ℕ) (y : Node) → WeekAt ws l xs t → cost ≡ fullLeast (problemOf ws) t (has out)
+    → cost < NO_RUN → Begun (problemOf ws) (priceIn xs) t out cost y → v ≤ y .value .0
+    → Floor (problemOf ws) (priceIn xs) t (has (y .out)) (l .units) v → Value (problemOf ws) (priceIn xs) t (has out) v
+value-chosen ws xs l t out cost v y at e less begun low floor =
     record {
-      least = subst (λ (o : ℕ). WeekLeast p u t (has o) v) same (floor-week p u t (has own) (l .units) v (omega (arith, units-are ws l f)) floor);
-      small = omega (arith, cheap);
-      none = λ n. absurd (omega (arith, cheap));
-      serves = λ n. omega arith;
+      least = subst (λ (o : ℕ). WeekLeast p u t (has o) v) (begun .same)
+          (floor-week p u t (has (y .out)) (l .units) v (omega (arith, f .units-are)) floor);
+      small = omega (arith, cheap, few, begun .value);
+      none = λ x. absurd (omega (arith, cheap, few, begun .value));
+      serves = λ x. omega arith;
     }
   where
+    f : Filed ws l
+    f = at .filed
+
     p : Problem
     p = problemOf ws
 
+    u : ℕ → ℕ → ℕ
+    u = priceIn xs
+
     cheap : fullLeast p t (has out) ≤ 4000000
-    cheap = run-cheap ws l t (has out) f h (omega arith)
+    cheap = run-cheap ws l t (has out) f (at .week) (omega arith)
+
+    few : notOut u t (has out) (p .units) ≤ 67108864
+    few =
+        let most : p .units ≤ 16 = omega (arith, f .units-are, f .units-most) in
+        omega (arith, not-out-small xs t (has out) (p .units) (at .priced .prices), mul-le-mul-right MOST_PRICE most)
 
 -- ---- a memory of values
 

@@ -9,10 +9,15 @@ use lib.Dec.{eqb}
 use lib.ListN.{getD}
 use Rattle.sums.specs.Sum.{sumTo}
 use Rattle.sums.specs.NumSet.{NumSet, pick, away, has}
+use Rattle.model.specs.declared.Layout.{Layout}
 use Rattle.model.specs.Problem.{Problem}
+use Rattle.model.specs.Words.{problemOf}
 use Rattle.model.specs.Rules.{headcount}
-use Rattle.model.specs.Commitment.{Serves, fullCost, fullLeast}
+use Rattle.model.specs.Commitment.{NO_RUN, Serves, fullCost, fullLeast}
 use Rattle.model.specs.Plan.{Compatible}
+use Rattle.tables.specs.Tables.{priceIn}
+use Rattle.memo.specs.Memo.{Right}
+use Rattle.relaxation.specs.Relaxed.{WeekAt}
 use Rattle.relaxation.specs.declared.Node.{Node}
 
 -- what the prices in week t of the units below k come to, of those not in a
@@ -27,6 +32,11 @@ pub record Reach (p : Problem) (o : NumSet) (k : ℕ) (x : NumSet) : Type 0 wher
 -- v is at most what week t is worth with any set out that has the units of o, and from unit k on no other
 pub record Floor (p : Problem) (u : ℕ → ℕ → ℕ) (t : ℕ) (o : NumSet) (k v : ℕ) : Type 0 where
   pub below : (x : NumSet) (r : ℕ) → Compatible p x → Reach p o k x → Serves p t x r → v ≤ fullCost p t r + notOut u t x (p .units)
+
+-- one unit more: a number that counts for the sets whose further units lie below i has given way to one, no larger, that counts with unit i too
+pub record Lowers (p : Problem) (u : ℕ → ℕ → ℕ) (t : ℕ) (o : NumSet) (i low v : ℕ) : Type 0 where
+  pub less : v ≤ low
+  pub next : Floor p u t o i low → Floor p u t o (i + 1) v
 
 -- no compatible set with the units of o has unit i
 pub record Barred (p : Problem) (o : NumSet) (i : ℕ) : Type 0 where
@@ -73,3 +83,28 @@ pub record Child (price clash i : ℕ) (y : Node) (out cost : ℕ) (z : Node) : 
   pub room : z .room + 1 ≡ y .room
   pub rest : z .rest .0 + price ≡ y .rest .0
   pub value : z .value .0 ≡ cost + z .rest .0
+
+-- what is known of y with unit i out as well
+pub record WithUnit (p : Problem) (u : ℕ → ℕ → ℕ) (t i : ℕ) (y z : Node) : Type 0 where
+  pub known : Known p u t z
+  pub sets : (k : ℕ) → has (z .out) k ≡ (has (y .out) k || eqb k i)
+
+-- a week before others are tried: the prices left, and what the cheapest run with just these units out costs
+pub record Beginning (ws : List ℕ) (l : Layout) (xs left : List ℕ) (t out cost : ℕ) : Type 0 where
+  pub at : WeekAt ws l xs t
+  pub sums : Left (priceIn xs) t (has out) (l .units) left
+  pub is : cost ≡ fullLeast (problemOf ws) t (has out)
+  pub small : cost < NO_RUN
+
+-- what is known of just these units
+pub record Begun (p : Problem) (u : ℕ → ℕ → ℕ) (t out cost : ℕ) (y : Node) : Type 0 where
+  pub known : Known p u t y
+  pub same : y .out ≡ out
+  pub value : y .value .0 ≡ cost + notOut u t (has out) (p .units)
+
+-- a choice that goes on from the units of y, with the prices left and a memory of least costs
+pub record Choosing (ws : List ℕ) (l : Layout) (xs left : List ℕ) (t : ℕ) (y : Node) (memo : List ℕ) : Type 0 where
+  pub at : WeekAt ws l xs t
+  pub right : Right (problemOf ws) memo
+  pub known : Known (problemOf ws) (priceIn xs) t y
+  pub spare : Spare (priceIn xs) t (has (y .out)) (l .units) left

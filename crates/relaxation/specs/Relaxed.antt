@@ -6,18 +6,21 @@ use mathlib.Core.Path.{_≡_}
 use mathlib.Core.List.{List}
 use lib.ListN.{getD}
 use Rattle.sums.specs.NumSet.{NumSet, has}
+use Rattle.sets.specs.Sets.{SETS}
+use Rattle.model.specs.declared.Layout.{Layout}
 use Rattle.model.specs.Problem.{Problem}
+use Rattle.model.specs.Words.{problemOf}
 use Rattle.model.specs.Commitment.{fullLeast, NoRun, NO_RUN}
+use Rattle.instance.specs.Filed.{Filed}
+use Rattle.tables.specs.Tables.{Priced}
 use Rattle.memo.specs.Memo.{OTHERS, keyOf, Right}
 use Rattle.blame.specs.Priced.{WeekLeast}
 
--- the price of unit i in week t, in a table with 16 places a week
-unfoldable pub priceIn : List ℕ → (t i : ℕ) → ℕ
-priceIn xs t i = getD xs (t * 16 + i) 0
-
--- every price is at most 2^22
-pub record Prices (xs : List ℕ) : Type 0 where
-  pub small : (k : ℕ) → getD xs k 0 ≤ 4194304
+-- week t of a file, with a table that has prices and partners
+pub record WeekAt (ws : List ℕ) (l : Layout) (xs : List ℕ) (t : ℕ) : Type 0 where
+  pub filed : Filed ws l
+  pub week : t < l .weeks
+  pub priced : Priced (problemOf ws) xs
 
 -- v is at most what week t is worth with the units of a out, and others perhaps; or stands for no run
 pub record Value (p : Problem) (u : ℕ → ℕ → ℕ) (t : ℕ) (a : NumSet) (v : ℕ) : Type 0 where
@@ -33,7 +36,7 @@ valueKey t out = keyOf t out + OTHERS
 
 -- an entry under such a key has such a value
 pub record Values (p : Problem) (u : ℕ → ℕ → ℕ) (memo : List ℕ) : Type 0 where
-  pub holds : (e t out : ℕ) → out < 65536 → getD memo (e * 2) 0 ≡ valueKey t out → Value p u t (has out) (getD memo (e * 2 + 1) 0)
+  pub holds : (e t out : ℕ) → out < SETS → getD memo (e * 2) 0 ≡ valueKey t out → Value p u t (has out) (getD memo (e * 2 + 1) 0)
 
 -- a memory of least costs, and of values at these prices
 pub record Recalls (p : Problem) (u : ℕ → ℕ → ℕ) (memo : List ℕ) : Type 0 where

@@ -3,7 +3,11 @@
 // prices left cannot pay. Weeks and units count from 0.
 use instance::Euro;
 use memo::Kept;
+use memo::OTHERS;
 use model::Layout;
+use model::NO_RUN;
+use sets::SETS;
+use tables::TABLES;
 ghost use mathlib.Core.Path.{_≡_};
 ghost use mathlib.Core.Bool.{true, false, _||_};
 ghost use Prim.Native.Nat.{ℕ, _+_, _<_, _≤_};
@@ -12,12 +16,13 @@ ghost use lib.ListN.{getD};
 ghost use Rattle.sums.specs.Sum.{countsOne};
 ghost use Rattle.sums.specs.NumSet.{has, pick, away};
 ghost use Rattle.model.specs.Words.{problemOf};
-ghost use Rattle.model.specs.Commitment.{fullLeast};
+ghost use Rattle.sets.specs.Sets.{SETS};
+ghost use Rattle.model.specs.Commitment.{NO_RUN, fullLeast};
 ghost use Rattle.instance.specs.Filed.{Filed};
+ghost use Rattle.tables.specs.Tables.{priceIn, partnersIn, Prices, Priced};
 ghost use Rattle.memo.specs.Memo.{Right, Others};
-ghost use Rattle.relaxation.specs.Relaxed.{priceIn, Prices, Value, valueKey, Recalls};
-ghost use Rattle.relaxation.specs.Clashes.{Clashes};
-ghost use Rattle.relaxation.specs.Choosing.{notOut, Floor, Shut, Left, Spare, Roomed, Known, Over, Child};
+ghost use Rattle.relaxation.specs.Relaxed.{WeekAt, Value, valueKey, Recalls};
+ghost use Rattle.relaxation.specs.Choosing.{notOut, Floor, Lowers, Shut, Left, Roomed, Known, Over, Child, WithUnit, Beginning, Begun, Choosing};
 
 // What a week is worth, and a set of units out that is worth so much.
 pub struct Choice {
@@ -35,53 +40,28 @@ struct Node {
     value: Euro,
 }
 
-// At place j the units that form an excluded pair with unit j.
-pub fn clashes(words: &[u32], l: Layout) -> [u32; 16]
-    requires { ⌜ Filed (now words) l ⌝ }
-    ensures { λ r. ⌜ Clashes (problemOf (now (words .entry))) (l .units) r ⌝ }
-{
-    let units = l.units;
-    let mut table: [u32; 16] = [0; 16];
-    for j in 0..units {
-        table[j] = instance::partners(words, l, j);
-    }
-    table
-}
-
-// The price of unit i in week t.
-fn price(prices: &[u32; 832], t: usize, i: usize) -> Euro
-    requires { ⌜ (t < 52) × (i < 16) ⌝ }
-    requires { ⌜ Prices (now prices) ⌝ }
-    ensures { λ r. ⌜ (r .0 ≡ priceIn (now (prices .entry)) t i) × (r .0 ≤ 4194304) ⌝ }
-{
-    Euro(prices[t * 16 + i] as u64)
-}
-
 // ---- before the choice
 
-// The price of unit i in week t, 0 where it is out.
-fn price_part(prices: &[u32; 832], t: usize, out: u32, i: usize) -> Euro
-    requires { ⌜ (t < 52) × (i < 16) ⌝ }
-    requires { ⌜ Prices (now prices) ⌝ }
-    ensures { λ r. ⌜ (r .0 ≡ pick (away (has out)) (priceIn (now (prices .entry)) t) i) × (r .0 ≤ 4194304) ⌝ }
+// A sum of prices, with that of unit i in week t unless it is out.
+fn price_added(tables: &[u32; TABLES], t: usize, out: u32, i: usize, sum: u64) -> u64
+    requires { ⌜ (t < 52) × (i < 16) × (sum ≤ 67108864) × Prices (now tables) ⌝ }
+    ensures { λ r. ⌜ r ≡ sum + pick (away (has out)) (priceIn (now (tables .entry)) t) i ⌝ }
 {
     if sets::has(out, i) {
-        return Euro(0);
+        return sum;
     }
-    price(prices, t, i)
+    let own = tables::price(tables, t, i);
+    sum + own.0
 }
 
 // At place k what the prices of the units below k come to, of those not out.
-fn prices_left(prices: &[u32; 832], units: usize, t: usize, out: u32) -> [u64; 17]
-    requires { ⌜ (t < 52) × (units ≤ 16) ⌝ }
-    requires { ⌜ Prices (now prices) ⌝ }
-    ensures { λ r. ⌜ Left (priceIn (now (prices .entry))) t (has out) units r ⌝ }
+fn prices_left(tables: &[u32; TABLES], units: usize, t: usize, out: u32) -> [u64; 17]
+    requires { ⌜ (t < 52) × (units ≤ 16) × Prices (now tables) ⌝ }
+    ensures { λ r. ⌜ Left (priceIn (now (tables .entry))) t (has out) units r ⌝ }
 {
     let mut table: [u64; 17] = [0; 17];
     for i in 0..units {
-        let more = price_part(prices, t, out, i);
-        let sum = Euro(table[i]).plus(more);
-        table[i + 1] = sum.0;
+        table[i + 1] = price_added(tables, t, out, i, table[i]);
     }
     table
 }
@@ -124,23 +104,20 @@ fn shut_more(shut: u32, i: usize, clash: u32) -> u32
 fn shut_after(
     words: &[u32],
     l: Layout,
-    prices: &[u32; 832],
-    clashes: &[u32; 16],
+    tables: &[u32; TABLES],
     t: usize,
     out: u32,
     i: usize,
     shut: u32,
 ) -> u32
-    requires { ⌜ Filed (now words) l ⌝ }
-    requires { ⌜ (t < l .weeks) × (i < l .units) ⌝ }
-    requires { ⌜ Prices (now prices) × Clashes (problemOf (now words)) (l .units) (now clashes) ⌝ }
-    requires { ⌜ Shut (problemOf (now words)) (priceIn (now prices)) t (has out) i shut ⌝ }
-    ensures { λ r. ⌜ Shut (problemOf (now (words .entry))) (priceIn (now (prices .entry))) t (has out) (i + 1) r ⌝ }
+    requires { ⌜ WeekAt (now words) l (now tables) t × (i < l .units) ⌝ }
+    requires { ⌜ Shut (problemOf (now words)) (priceIn (now tables)) t (has out) i shut ⌝ }
+    ensures { λ r. ⌜ Shut (problemOf (now (words .entry))) (priceIn (now (tables .entry))) t (has out) (i + 1) r ⌝ }
 {
     if sets::has(out, i) {
-        return shut_more(shut, i, clashes[i]);
+        return shut_more(shut, i, tables::partners(tables, i));
     }
-    let own = price(prices, t, i);
+    let own = tables::price(tables, t, i);
     if own.0 == 0 {
         return sets::with(shut, i);
     }
@@ -148,23 +125,14 @@ fn shut_after(
 }
 
 // The units that need no try with these out.
-fn shut_units(
-    words: &[u32],
-    l: Layout,
-    prices: &[u32; 832],
-    clashes: &[u32; 16],
-    t: usize,
-    out: u32,
-) -> u32
-    requires { ⌜ Filed (now words) l ⌝ }
-    requires { ⌜ t < l .weeks ⌝ }
-    requires { ⌜ Prices (now prices) × Clashes (problemOf (now words)) (l .units) (now clashes) ⌝ }
-    ensures { λ r. ⌜ Shut (problemOf (now (words .entry))) (priceIn (now (prices .entry))) t (has out) (problemOf (now (words .entry)) .units) r ⌝ }
+fn shut_units(words: &[u32], l: Layout, tables: &[u32; TABLES], t: usize, out: u32) -> u32
+    requires { ⌜ WeekAt (now words) l (now tables) t ⌝ }
+    ensures { λ r. ⌜ Shut (problemOf (now (words .entry))) (priceIn (now (tables .entry))) t (has out) (problemOf (now (words .entry)) .units) r ⌝ }
 {
     let units = l.units;
     let mut shut = 0;
     for i in 0..units {
-        shut = shut_after(words, l, prices, clashes, t, out, i, shut);
+        shut = shut_after(words, l, tables, t, out, i, shut);
     }
     shut
 }
@@ -203,23 +171,15 @@ fn passed_over(left: &[u64; 17], i: usize, y: Node, low: Euro) -> bool
 }
 
 // The set with unit i out as well, at the cost of its cheapest run.
-fn child(
-    prices: &[u32; 832],
-    clashes: &[u32; 16],
-    t: usize,
-    i: usize,
-    y: Node,
-    out: u32,
-    cost: Euro,
-) -> Node
-    requires { ⌜ (t < 52) × (i < 16) × (0 < y .room) × (cost .0 ≤ 268435456) ⌝ }
-    requires { ⌜ (priceIn (now prices) t i ≤ y .rest .0) × (y .rest .0 ≤ 67108864) ⌝ }
-    requires { ⌜ Prices (now prices) ⌝ }
-    ensures { λ r. ⌜ Child (priceIn (now (prices .entry)) t i) (getD (now (clashes .entry)) i 0) i y out (cost .0) r ⌝ }
+fn child(tables: &[u32; TABLES], t: usize, i: usize, y: Node, out: u32, cost: Euro) -> Node
+    requires { ⌜ (t < 52) × (i < 16) × (0 < y .room) × (cost .0 ≤ NO_RUN) ⌝ }
+    requires { ⌜ (priceIn (now tables) t i ≤ y .rest .0) × (y .rest .0 ≤ 67108864) ⌝ }
+    requires { ⌜ Prices (now tables) ⌝ }
+    ensures { λ r. ⌜ Child (priceIn (now (tables .entry)) t i) (partnersIn (now (tables .entry)) i) i y out (cost .0) r ⌝ }
 {
-    let own = price(prices, t, i);
+    let own = tables::price(tables, t, i);
     let rest = Euro(y.rest.0 - own.0);
-    let shut = shut_more(y.shut, i, clashes[i]);
+    let shut = shut_more(y.shut, i, tables::partners(tables, i));
     Node {
         out,
         shut,
@@ -229,12 +189,31 @@ fn child(
     }
 }
 
+// The set with unit i out as well.
+fn with_unit(
+    words: &[u32],
+    l: Layout,
+    tables: &[u32; TABLES],
+    t: usize,
+    i: usize,
+    y: Node,
+    memo: &mut [u32],
+) -> Node
+    requires { ⌜ WeekAt (now words) l (now tables) t × Right (problemOf (now words)) (now memo) ⌝ }
+    requires { ⌜ Known (problemOf (now words)) (priceIn (now tables)) t y × (i < l .units) × (0 < y .room) × (has (y .shut) i ≡ false) ⌝ }
+    ensures answer { λ r. ⌜ WithUnit (problemOf (now (words .entry))) (priceIn (now (tables .entry))) t i y r ⌝ }
+    ensures right { λ r. ⌜ Right (problemOf (now (words .entry))) (now (memo .exit)) × Others (now (memo .entry)) (now (memo .exit)) ⌝ }
+{
+    let out = sets::with(y.out, i);
+    let cost = memo::full_least(words, l, t, out, memo);
+    child(tables, t, i, y, out, cost)
+}
+
 // The best so far, or a better choice in which unit i is the highest of the further units out.
 fn choose_with(
     words: &[u32],
     l: Layout,
-    prices: &[u32; 832],
-    clashes: &[u32; 16],
+    tables: &[u32; TABLES],
     left: &[u64; 17],
     t: usize,
     i: usize,
@@ -242,32 +221,23 @@ fn choose_with(
     low: Choice,
     memo: &mut [u32],
 ) -> Choice
-    requires { ⌜ Filed (now words) l ⌝ }
-    requires { ⌜ (t < l .weeks) × (i < l .units) ⌝ }
-    requires { ⌜ Prices (now prices) × Clashes (problemOf (now words)) (l .units) (now clashes) ⌝ }
-    requires { ⌜ Right (problemOf (now words)) (now memo) ⌝ }
-    requires { ⌜ Known (problemOf (now words)) (priceIn (now prices)) t y × Spare (priceIn (now prices)) t (has (y .out)) (l .units) (now left) ⌝ }
-    requires { ⌜ (0 < y .room) × (low .value .0 ≤ y .value .0) ⌝ }
-    requires { ⌜ Floor (problemOf (now words)) (priceIn (now prices)) t (has (y .out)) i (low .value .0) ⌝ }
-    ensures answer { λ r. ⌜ Floor (problemOf (now (words .entry))) (priceIn (now (prices .entry))) t (has (y .out)) (i + 1) (r .value .0) ⌝ }
-    ensures less { λ r. ⌜ r .value .0 ≤ low .value .0 ⌝ }
+    requires { ⌜ Choosing (now words) l (now tables) (now left) t y (now memo) ⌝ }
+    requires { ⌜ (i < l .units) × (0 < y .room) × (low .value .0 ≤ y .value .0) ⌝ }
+    ensures answer { λ r. ⌜ Lowers (problemOf (now (words .entry))) (priceIn (now (tables .entry))) t (has (y .out)) i (low .value .0) (r .value .0) ⌝ }
     ensures right { λ r. ⌜ Right (problemOf (now (words .entry))) (now (memo .exit)) × Others (now (memo .entry)) (now (memo .exit)) ⌝ }
 {
     if passed_over(left, i, y, low.value) {
         return low;
     }
-    let out = sets::with(y.out, i);
-    let cost = memo::full_least(words, l, t, out, memo);
-    let z = child(prices, clashes, t, i, y, out, cost);
-    choose(words, l, prices, clashes, left, t, i, z, low, memo)
+    let z = with_unit(words, l, tables, t, i, y, memo);
+    choose(words, l, tables, left, t, i, z, low, memo)
 }
 
 // The best so far, or a better choice with the units of y and further ones below k.
 fn choose(
     words: &[u32],
     l: Layout,
-    prices: &[u32; 832],
-    clashes: &[u32; 16],
+    tables: &[u32; TABLES],
     left: &[u64; 17],
     t: usize,
     k: usize,
@@ -275,12 +245,8 @@ fn choose(
     best: Choice,
     memo: &mut [u32],
 ) -> Choice
-    requires { ⌜ Filed (now words) l ⌝ }
-    requires { ⌜ (t < l .weeks) × (k ≤ l .units) ⌝ }
-    requires { ⌜ Prices (now prices) × Clashes (problemOf (now words)) (l .units) (now clashes) ⌝ }
-    requires { ⌜ Right (problemOf (now words)) (now memo) ⌝ }
-    requires { ⌜ Known (problemOf (now words)) (priceIn (now prices)) t y × Spare (priceIn (now prices)) t (has (y .out)) (l .units) (now left) ⌝ }
-    ensures answer { λ r. ⌜ Floor (problemOf (now (words .entry))) (priceIn (now (prices .entry))) t (has (y .out)) k (r .value .0) ⌝ }
+    requires { ⌜ Choosing (now words) l (now tables) (now left) t y (now memo) × (k ≤ l .units) ⌝ }
+    ensures answer { λ r. ⌜ Floor (problemOf (now (words .entry))) (priceIn (now (tables .entry))) t (has (y .out)) k (r .value .0) ⌝ }
     ensures less { λ r. ⌜ r .value .0 ≤ best .value .0 ⌝ }
     ensures right { λ r. ⌜ Right (problemOf (now (words .entry))) (now (memo .exit)) × Others (now (memo .entry)) (now (memo .exit)) ⌝ }
 {
@@ -293,31 +259,27 @@ fn choose(
     }
     // Each time round, `low` is at most what the week is worth with any set whose further units lie below i.
     for i in 0..k {
-        low = choose_with(words, l, prices, clashes, left, t, i, y, low, memo);
+        low = choose_with(words, l, tables, left, t, i, y, low, memo);
     }
     low
 }
 
-// What is known of the units out, at the cost of their cheapest run and the prices of the others.
+// The set of units that are out, at the cost of its cheapest run, before others are tried.
 fn root(
     words: &[u32],
     l: Layout,
-    prices: &[u32; 832],
-    clashes: &[u32; 16],
+    tables: &[u32; TABLES],
+    left: &[u64; 17],
     t: usize,
     out: u32,
     cost: Euro,
-    rest: Euro,
 ) -> Node
-    requires { ⌜ Filed (now words) l ⌝ }
-    requires { ⌜ t < l .weeks ⌝ }
-    requires { ⌜ Prices (now prices) × Clashes (problemOf (now words)) (l .units) (now clashes) ⌝ }
-    requires { ⌜ (cost .0 ≡ fullLeast (problemOf (now words)) t (has out)) × (cost .0 ≤ 268435456) ⌝ }
-    requires { ⌜ (rest .0 ≡ notOut (priceIn (now prices)) t (has out) (l .units)) × (rest .0 ≤ 67108864) ⌝ }
-    ensures known { λ r. ⌜ Known (problemOf (now (words .entry))) (priceIn (now (prices .entry))) t r ⌝ }
-    ensures sum { λ r. ⌜ (r .out ≡ out) × (r .value .0 ≡ cost .0 + rest .0) ⌝ }
+    requires { ⌜ Beginning (now words) l (now tables) (now left) t out (cost .0) ⌝ }
+    ensures { λ r. ⌜ Begun (problemOf (now (words .entry))) (priceIn (now (tables .entry))) t out (cost .0) r ⌝ }
 {
-    let shut = shut_units(words, l, prices, clashes, t, out);
+    let units = l.units;
+    let rest = Euro(left[units]);
+    let shut = shut_units(words, l, tables, t, out);
     let room = room_left(words, l, out);
     Node {
         out,
@@ -328,66 +290,92 @@ fn root(
     }
 }
 
+// The best choice with the units of y and any others.
+fn choose_any(
+    words: &[u32],
+    l: Layout,
+    tables: &[u32; TABLES],
+    left: &[u64; 17],
+    t: usize,
+    y: Node,
+    memo: &mut [u32],
+) -> Choice
+    requires { ⌜ Choosing (now words) l (now tables) (now left) t y (now memo) ⌝ }
+    ensures answer { λ r. ⌜ Floor (problemOf (now (words .entry))) (priceIn (now (tables .entry))) t (has (y .out)) (l .units) (r .value .0)
+        × (r .value .0 ≤ y .value .0) ⌝ }
+    ensures right { λ r. ⌜ Right (problemOf (now (words .entry))) (now (memo .exit)) × Others (now (memo .entry)) (now (memo .exit)) ⌝ }
+{
+    let value = y.value;
+    let own = Choice { value, out: y.out };
+    choose(words, l, tables, left, t, l.units, y, own, memo)
+}
+
+// What week t is worth with these units out, and others perhaps, where their cheapest run costs so much.
+fn choice_from(
+    words: &[u32],
+    l: Layout,
+    tables: &[u32; TABLES],
+    t: usize,
+    out: u32,
+    cost: Euro,
+    memo: &mut [u32],
+) -> Choice
+    requires { ⌜ WeekAt (now words) l (now tables) t × Right (problemOf (now words)) (now memo) ⌝ }
+    requires { ⌜ (cost .0 ≡ fullLeast (problemOf (now words)) t (has out)) × (cost .0 < NO_RUN) ⌝ }
+    ensures answer { λ r. ⌜ Value (problemOf (now (words .entry))) (priceIn (now (tables .entry))) t (has out) (r .value .0) ⌝ }
+    ensures right { λ r. ⌜ Right (problemOf (now (words .entry))) (now (memo .exit)) × Others (now (memo .entry)) (now (memo .exit)) ⌝ }
+{
+    let left = prices_left(tables, l.units, t, out);
+    let y = root(words, l, tables, &left, t, out, cost);
+    choose_any(words, l, tables, &left, t, y, memo)
+}
+
 // What week t is worth with these units out, and others perhaps, computed from the least costs alone. The set is advice.
 pub fn best_choice(
     words: &[u32],
     l: Layout,
-    prices: &[u32; 832],
-    clashes: &[u32; 16],
+    tables: &[u32; TABLES],
     t: usize,
     out: u32,
     memo: &mut [u32],
 ) -> Choice
-    requires { ⌜ Filed (now words) l ⌝ }
-    requires { ⌜ t < l .weeks ⌝ }
-    requires { ⌜ Prices (now prices) × Clashes (problemOf (now words)) (l .units) (now clashes) ⌝ }
-    requires { ⌜ Right (problemOf (now words)) (now memo) ⌝ }
-    ensures answer { λ r. ⌜ Value (problemOf (now (words .entry))) (priceIn (now (prices .entry))) t (has out) (r .value .0) ⌝ }
+    requires { ⌜ WeekAt (now words) l (now tables) t × Right (problemOf (now words)) (now memo) ⌝ }
+    ensures answer { λ r. ⌜ Value (problemOf (now (words .entry))) (priceIn (now (tables .entry))) t (has out) (r .value .0) ⌝ }
     ensures right { λ r. ⌜ Right (problemOf (now (words .entry))) (now (memo .exit)) × Others (now (memo .entry)) (now (memo .exit)) ⌝ }
 {
     let cost = memo::full_least(words, l, t, out, memo);
-    // 2^28 stands for no run.
-    if 268435456 <= cost.0 {
+    if NO_RUN <= cost.0 {
         return Choice { value: cost, out };
     }
-    let units = l.units;
-    let left = prices_left(prices, units, t, out);
-    let y = root(words, l, prices, clashes, t, out, cost, Euro(left[units]));
-    let value = y.value;
-    let best = Choice { value, out };
-    choose(words, l, prices, clashes, &left, t, units, y, best, memo)
+    choice_from(words, l, tables, t, out, cost, memo)
 }
 
 // ---- values kept
 
 // The key of what week t is worth with these units out.
 fn value_key(t: usize, out: u32) -> u32
-    requires { ⌜ (t < 52) × (out < 65536) ⌝ }
+    requires { ⌜ (t < 52) × (out < SETS) ⌝ }
     ensures { λ r. ⌜ r ≡ valueKey t out ⌝ }
 {
     let week = t as u32;
-    week * 65536 + out + 1 + 4194304
+    week * SETS + out + 1 + OTHERS
 }
 
 // What week t is worth with these units out, and others perhaps: from the memory, or computed and kept there.
 pub fn week_value(
     words: &[u32],
     l: Layout,
-    prices: &[u32; 832],
-    clashes: &[u32; 16],
+    tables: &[u32; TABLES],
     t: usize,
     out: u32,
     memo: &mut [u32],
 ) -> Euro
-    requires { ⌜ Filed (now words) l ⌝ }
-    requires { ⌜ t < l .weeks ⌝ }
-    requires { ⌜ Prices (now prices) × Clashes (problemOf (now words)) (l .units) (now clashes) ⌝ }
-    requires { ⌜ Recalls (problemOf (now words)) (priceIn (now prices)) (now memo) ⌝ }
-    ensures answer { λ r. ⌜ Value (problemOf (now (words .entry))) (priceIn (now (prices .entry))) t (has out) (r .0) ⌝ }
-    ensures recalls { λ r. ⌜ Recalls (problemOf (now (words .entry))) (priceIn (now (prices .entry))) (now (memo .exit)) ⌝ }
+    requires { ⌜ WeekAt (now words) l (now tables) t × Recalls (problemOf (now words)) (priceIn (now tables)) (now memo) ⌝ }
+    ensures answer { λ r. ⌜ Value (problemOf (now (words .entry))) (priceIn (now (tables .entry))) t (has out) (r .0) ⌝ }
+    ensures recalls { λ r. ⌜ Recalls (problemOf (now (words .entry))) (priceIn (now (tables .entry))) (now (memo .exit)) ⌝ }
 {
-    if 65536 <= out {
-        let c = best_choice(words, l, prices, clashes, t, out, memo);
+    if SETS <= out {
+        let c = best_choice(words, l, tables, t, out, memo);
         return c.value;
     }
     let key = value_key(t, out);
@@ -395,7 +383,7 @@ pub fn week_value(
     if let Kept::Word(word) = found {
         return Euro(word as u64);
     }
-    let c = best_choice(words, l, prices, clashes, t, out, memo);
+    let c = best_choice(words, l, tables, t, out, memo);
     memo::keep(memo, key, c.value.0 as u32);
     c.value
 }

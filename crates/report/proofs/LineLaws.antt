@@ -10,100 +10,117 @@ use lib.ListN.{length, getD}
 use borrow.Author.Tests.{eq-eqb, ne-eqb}
 use Rattle.model.specs.Lines.{askWord, refusedWord, planWord, noneWord, bestWord, spentWord, startsWord, runWord, markWord, soundWord, ruleWord}
 use Rattle.model.specs.Lines.{numberText, wordsText, scheduleText, markText, bestText, blockText, lineText, linesText, refusalText, soundText, ruleText}
+use Rattle.report.specs.Lengths.{STARTS, SCHEDULE, MARK, BLOCK, LINE, TEXT}
+use Rattle.report.specs.Parts.{startsText, spentText}
 use Rattle.report.specs.Put.{Put, Whole, Listed}
 use Rattle.report.proofs.PutLaws.{put-nothing, put-join, put-most}
 
+-- the cost and the starts
+pub starts-put : (ws : List ℕ) (b u : ℕ) (d d₁ d₂ d₃ : List ℕ) (at k₁ k₂ r x : ℕ) → u ≤ 16 → at + STARTS ≤ length d → x ≡ getD ws (b + 1) 0
+    → Put d d₁ at k₁ 21 (numberText x) → Put d₁ d₂ k₁ k₂ 7 startsWord → Put d₂ d₃ k₂ r (21 * u) (wordsText ws (b + 2) u)
+    → Put d d₃ at r STARTS (startsText ws b u)
+unfolding startsText
+starts-put ws b u d d₁ d₂ d₃ at k₁ k₂ r x few room is f₁ f₂ f₃ =
+    let low : at ≤ length d = omega arith in
+    let most : 21 + 7 + 21 * u ≤ STARTS = omega arith in
+    let c = numberText (getD ws (b + 1) 0) in
+    let own : Put d d₁ at k₁ 21 c = rw is at f₁ in
+    let two = put-join d d₁ d₂ at k₁ k₂ 21 7 c startsWord low own f₂ in
+    put-most d d₃ at r (21 + 7 + 21 * u) STARTS (startsText ws b u)
+    (put-join d d₂ d₃ at k₂ r (21 + 7) (21 * u) (c ++ startsWord) (wordsText ws (b + 2) u) low two f₃)
+    most
+
+-- " spent" and the mark
+pub spent-put : (ws : List ℕ) (b u w : ℕ) (d d₁ d₂ : List ℕ) (at k r : ℕ) → at + BLOCK ≤ length d → Put d d₁ at k 6 spentWord
+    → Put d₁ d₂ k r MARK (markText ws b u w) → Put d d₂ at r BLOCK (spentText ws b u w)
+unfolding spentText
+spent-put ws b u w d d₁ d₂ at k r room f g =
+    let low : at ≤ length d = omega arith in
+    let most : 6 + MARK ≤ BLOCK = omega arith in
+    put-most d d₂ at r (6 + MARK) BLOCK (spentText ws b u w) (put-join d d₁ d₂ at k r 6 MARK spentWord (markText ws b u w) low f g) most
+
 module _ (ws : List ℕ) (b u w : ℕ) (whole : Whole (length ws) b u w) where
   -- " mark" and its starts
-  pub mark-put : (d d₁ d₂ : List ℕ) (at k r : ℕ) → at + 341 ≤ length d → Put d d₁ at k 5 markWord → Put d₁ d₂ k r (21 * u) (wordsText ws (b + 2 + u + w) u)
-      → Put d d₂ at r 341 (markText ws b u w)
+  pub mark-put : (d d₁ d₂ : List ℕ) (at k r : ℕ) → at + MARK ≤ length d → Put d d₁ at k 5 markWord → Put d₁ d₂ k r (21 * u) (wordsText ws (b + 2 + u + w) u)
+      → Put d d₂ at r MARK (markText ws b u w)
   unfolding markText
   mark-put d d₁ d₂ at k r room f g =
       let low : at ≤ length d = omega arith in
-      let most : 5 + 21 * u ≤ 341 = omega (arith, whole .units) in
-      put-most d d₂ at r (5 + 21 * u) 341 (markText ws b u w) (put-join d d₁ d₂ at k r 5 (21 * u) markWord (wordsText ws (b + 2 + u + w) u) low f g) most
+      let most : 5 + 21 * u ≤ MARK = omega (arith, whole .units) in
+      put-most d d₂ at r (5 + 21 * u) MARK (markText ws b u w) (put-join d d₁ d₂ at k r 5 (21 * u) markWord (wordsText ws (b + 2 + u + w) u) low f g) most
 
-  -- the cost, the starts, the runs
-  pub schedule-put : (d d₁ d₂ d₃ d₄ d₅ : List ℕ) (at k₁ k₂ k₃ k₄ r x : ℕ) → at + 1460 ≤ length d → x ≡ getD ws (b + 1) 0
-      → Put d d₁ at k₁ 21 (numberText x) → Put d₁ d₂ k₁ k₂ 7 startsWord → Put d₂ d₃ k₂ k₃ (21 * u) (wordsText ws (b + 2) u)
-      → Put d₃ d₄ k₃ k₄ 4 runWord → Put d₄ d₅ k₄ r (21 * w) (wordsText ws (b + 2 + u) w)
-      → Put d d₅ at r 1460 (scheduleText ws b u w)
-  unfolding scheduleText
-  schedule-put d d₁ d₂ d₃ d₄ d₅ at k₁ k₂ k₃ k₄ r x room is f₁ f₂ f₃ f₄ f₅ =
+  -- the cost and the starts, the runs
+  pub schedule-put : (d d₁ d₂ d₃ : List ℕ) (at k₁ k₂ r : ℕ) → at + SCHEDULE ≤ length d → Put d d₁ at k₁ STARTS (startsText ws b u)
+      → Put d₁ d₂ k₁ k₂ 4 runWord → Put d₂ d₃ k₂ r (21 * w) (wordsText ws (b + 2 + u) w) → Put d d₃ at r SCHEDULE (scheduleText ws b u w)
+  unfolding scheduleText startsText
+  schedule-put d d₁ d₂ d₃ at k₁ k₂ r room f₁ f₂ f₃ =
       let low : at ≤ length d = omega arith in
-      let most : 21 + 7 + 21 * u + 4 + 21 * w ≤ 1460 = omega (arith, whole .units, whole .weeks) in
-      let c = numberText (getD ws (b + 1) 0) in
-      let own : Put d d₁ at k₁ 21 c = rw is at f₁ in
-      let two = put-join d d₁ d₂ at k₁ k₂ 21 7 c startsWord low own f₂ in
-      let three = put-join d d₂ d₃ at k₂ k₃ (21 + 7) (21 * u) (c ++ startsWord) (wordsText ws (b + 2) u) low two f₃ in
-      let four = put-join d d₃ d₄ at k₃ k₄ (21 + 7 + 21 * u) 4 (c ++ startsWord ++ wordsText ws (b + 2) u) runWord low three f₄ in
-      put-most d d₅ at r (21 + 7 + 21 * u + 4 + 21 * w) 1460 (scheduleText ws b u w)
-      (put-join d d₄ d₅ at k₄ r (21 + 7 + 21 * u + 4) (21 * w) (c ++ startsWord ++ wordsText ws (b + 2) u ++ runWord) (wordsText ws (b + 2 + u) w) low four f₅)
+      let most : STARTS + 4 + 21 * w ≤ SCHEDULE = omega (arith, whole .weeks) in
+      let two = put-join d d₁ d₂ at k₁ k₂ STARTS 4 (startsText ws b u) runWord low f₁ f₂ in
+      put-most d d₃ at r (STARTS + 4 + 21 * w) SCHEDULE (scheduleText ws b u w)
+      (put-join d d₂ d₃ at k₂ r (STARTS + 4) (21 * w) (startsText ws b u ++ runWord) (wordsText ws (b + 2 + u) w) low two f₃)
       most
 
   -- " best" with both
-  pub best-put : (d d₁ d₂ d₃ : List ℕ) (at k₁ k₂ r : ℕ) → at + 1806 ≤ length d → Put d d₁ at k₁ 5 bestWord
-      → Put d₁ d₂ k₁ k₂ 1460 (scheduleText ws b u w) → Put d₂ d₃ k₂ r 341 (markText ws b u w) → Put d d₃ at r 1806 (bestText ws b u w)
+  pub best-put : (d d₁ d₂ d₃ : List ℕ) (at k₁ k₂ r : ℕ) → at + BLOCK ≤ length d → Put d d₁ at k₁ 5 bestWord
+      → Put d₁ d₂ k₁ k₂ SCHEDULE (scheduleText ws b u w) → Put d₂ d₃ k₂ r MARK (markText ws b u w) → Put d d₃ at r BLOCK (bestText ws b u w)
   unfolding bestText
   best-put d d₁ d₂ d₃ at k₁ k₂ r room f₁ f₂ f₃ =
       let low : at ≤ length d = omega arith in
-      put-join d d₂ d₃ at k₂ r 1465 341 (bestWord ++ scheduleText ws b u w) (markText ws b u w) low
-      (put-join d d₁ d₂ at k₁ k₂ 5 1460 bestWord (scheduleText ws b u w) low f₁ f₂) f₃
+      put-join d d₂ d₃ at k₂ r (5 + SCHEDULE) MARK (bestWord ++ scheduleText ws b u w) (markText ws b u w) low
+      (put-join d d₁ d₂ at k₁ k₂ 5 SCHEDULE bestWord (scheduleText ws b u w) low f₁ f₂) f₃
 
 -- ---- a block by its status
 
-module _ (ws : List ℕ) (b u w : ℕ) (d d₁ d₂ : List ℕ) (at k r s : ℕ) (is : s ≡ getD ws b 0) (room : at + 1806 ≤ length d) where
+module _ (ws : List ℕ) (b u w : ℕ) (d d₁ d₂ : List ℕ) (at k r s : ℕ) (is : s ≡ getD ws b 0) (room : at + BLOCK ≤ length d) where
   -- a plan
-  pub block-plan : s ≡ 1 → Put d d₁ at k 5 planWord → Put d₁ d₂ k r 1460 (scheduleText ws b u w)
-      → Put d d₂ at r 1806 (blockText ws b u w)
+  pub block-plan : s ≡ 1 → Put d d₁ at k 5 planWord → Put d₁ d₂ k r SCHEDULE (scheduleText ws b u w)
+      → Put d d₂ at r BLOCK (blockText ws b u w)
   unfolding blockText
   block-plan e f g =
       let low : at ≤ length d = omega arith in
-      let most : 1465 ≤ 1806 = omega arith in
+      let most : 5 + SCHEDULE ≤ BLOCK = omega arith in
       rw (← is, eq-eqb s 1 e)
-      (put-most d d₂ at r 1465 1806 (planWord ++ scheduleText ws b u w) (put-join d d₁ d₂ at k r 5 1460 planWord (scheduleText ws b u w) low f g) most)
+      (put-most d d₂ at r (5 + SCHEDULE) BLOCK (planWord ++ scheduleText ws b u w) (put-join d d₁ d₂ at k r 5 SCHEDULE planWord (scheduleText ws b u w) low f g) most)
 
   module _ (not-plan : s ≡ 1 → ⊥) where
     -- none
-    pub block-none : s ≡ 2 → Put d d₁ at r 5 noneWord → Put d d₁ at r 1806 (blockText ws b u w)
+    pub block-none : s ≡ 2 → Put d d₁ at r 5 noneWord → Put d d₁ at r BLOCK (blockText ws b u w)
     unfolding blockText
     block-none e f =
-        let most : 5 ≤ 1806 = omega arith in
-        rw (← is, ne-eqb s 1 not-plan, eq-eqb s 2 e) (put-most d d₁ at r 5 1806 noneWord f most)
+        let most : 5 ≤ BLOCK = omega arith in
+        rw (← is, ne-eqb s 1 not-plan, eq-eqb s 2 e) (put-most d d₁ at r 5 BLOCK noneWord f most)
 
     module _ (not-none : s ≡ 2 → ⊥) where
       -- a best before the mark
-      pub block-best : s ≡ 3 → Put d d₁ at r 1806 (bestText ws b u w) → Put d d₁ at r 1806 (blockText ws b u w)
+      pub block-best : s ≡ 3 → Put d d₁ at r BLOCK (bestText ws b u w) → Put d d₁ at r BLOCK (blockText ws b u w)
       unfolding blockText
       block-best e f = rw (← is, ne-eqb s 1 not-plan, ne-eqb s 2 not-none, eq-eqb s 3 e) f
 
-      -- a mark alone
-      pub block-spent : (s ≡ 3 → ⊥) → Put d d₁ at k 6 spentWord → Put d₁ d₂ k r 341 (markText ws b u w)
-          → Put d d₂ at r 1806 (blockText ws b u w)
-      unfolding blockText
-      block-spent not-best f g =
-          let low : at ≤ length d = omega arith in
-          let most : 347 ≤ 1806 = omega arith in
-          rw (← is, ne-eqb s 1 not-plan, ne-eqb s 2 not-none, ne-eqb s 3 not-best)
-          (put-most d d₂ at r 347 1806 (spentWord ++ markText ws b u w) (put-join d d₁ d₂ at k r 6 341 spentWord (markText ws b u w) low f g) most)
+-- a mark alone
+pub block-spent : (ws : List ℕ) (b u w : ℕ) (d d′ : List ℕ) (at r : ℕ) → (getD ws b 0 ≡ 1 → ⊥) → (getD ws b 0 ≡ 2 → ⊥) → (getD ws b 0 ≡ 3 → ⊥)
+    → Put d d′ at r BLOCK (spentText ws b u w) → Put d d′ at r BLOCK (blockText ws b u w)
+unfolding blockText spentText
+block-spent ws b u w d d′ at r not-plan not-none not-best f =
+    rw (ne-eqb (getD ws b 0) 1 not-plan, ne-eqb (getD ws b 0) 2 not-none, ne-eqb (getD ws b 0) 3 not-best) f
 
 -- ---- lines
 
 -- one line
-pub line-put : (ws : List ℕ) (k u w : ℕ) (d d₁ d₂ d₃ d₄ : List ℕ) (at k₁ k₂ k₃ r : ℕ) → at + 1831 ≤ length d
+pub line-put : (ws : List ℕ) (k u w : ℕ) (d d₁ d₂ d₃ d₄ : List ℕ) (at k₁ k₂ k₃ r : ℕ) → at + LINE ≤ length d
     → Put d d₁ at k₁ 3 askWord → Put d₁ d₂ k₁ k₂ 21 (numberText (k + 1))
-    → Put d₂ d₃ k₂ k₃ 1806 (blockText ws (k * (2 + 2 * u + w)) u w) → Put d₃ d₄ k₃ r 1 (10 ∷ [])
-    → Put d d₄ at r 1831 (lineText ws k u w)
+    → Put d₂ d₃ k₂ k₃ BLOCK (blockText ws (k * (2 + 2 * u + w)) u w) → Put d₃ d₄ k₃ r 1 (10 ∷ [])
+    → Put d d₄ at r LINE (lineText ws k u w)
 unfolding lineText
 line-put ws k u w d d₁ d₂ d₃ d₄ at k₁ k₂ k₃ r room f₁ f₂ f₃ f₄ =
     let low : at ≤ length d = omega arith in
     let block = blockText ws (k * (2 + 2 * u + w)) u w in
     let two = put-join d d₁ d₂ at k₁ k₂ 3 21 askWord (numberText (k + 1)) low f₁ f₂ in
-    let three = put-join d d₂ d₃ at k₂ k₃ 24 1806 (askWord ++ numberText (k + 1)) block low two f₃ in
-    put-join d d₃ d₄ at k₃ r 1830 1 (askWord ++ numberText (k + 1) ++ block) (10 ∷ []) low three f₄
+    let three = put-join d d₂ d₃ at k₂ k₃ 24 BLOCK (askWord ++ numberText (k + 1)) block low two f₃ in
+    put-join d d₃ d₄ at k₃ r (24 + BLOCK) 1 (askWord ++ numberText (k + 1) ++ block) (10 ∷ []) low three f₄
 
 -- none yet
-pub lines-start : (d ws : List ℕ) (u w : ℕ) → Put d d 0 0 (1831 * 0) (linesText ws 0 u w)
+pub lines-start : (d ws : List ℕ) (u w : ℕ) → Put d d 0 0 (LINE * 0) (linesText ws 0 u w)
 unfolding linesText
 lines-start d ws u w = put-nothing d 0
 
@@ -120,24 +137,24 @@ module _ (ws : List ℕ) (asks u w k : ℕ) (listed : Listed (length ws) asks u 
   pub lines-few : k < 32
   lines-few = omega (arith, listed .few)
 
-  module _ (d l : List ℕ) (n : ℕ) (f : Put d l 0 n (1831 * k) (linesText ws k u w)) where
+  module _ (d l : List ℕ) (n : ℕ) (f : Put d l 0 n (LINE * k) (linesText ws k u w)) where
     -- there is room for its line
-    pub lines-room : 65536 ≤ length d → length l ≡ length d → n + 1831 ≤ length l
+    pub lines-room : TEXT ≤ length d → length l ≡ length d → n + LINE ≤ length l
     lines-room room same = omega (arith, f .end, f .short, listed .few)
 
     -- its line behind the others
-    pub lines-next : (l′ : List ℕ) (r : ℕ) → Put l l′ n r 1831 (lineText ws k u w) → Put d l′ 0 r (1831 * (k + 1)) (linesText ws (k + 1) u w)
+    pub lines-next : (l′ : List ℕ) (r : ℕ) → Put l l′ n r LINE (lineText ws k u w) → Put d l′ 0 r (LINE * (k + 1)) (linesText ws (k + 1) u w)
     unfolding linesText
     lines-next l′ r g =
         let low : 0 ≤ length d = omega arith in
-        let more : 1831 * k + 1831 ≡ 1831 * suc k = omega arith in
+        let more : LINE * k + LINE ≡ LINE * suc k = omega arith in
         rw (add-one k)
         (subst (λ (m : ℕ). Put d l′ 0 r m (linesText ws k u w ++ lineText ws k u w)) more
-        (put-join d l l′ 0 n r (1831 * k) 1831 (linesText ws k u w) (lineText ws k u w) low f g))
+        (put-join d l l′ 0 n r (LINE * k) LINE (linesText ws k u w) (lineText ws k u w) low f g))
 
 -- all of them
-pub lines-ended : (ws d l : List ℕ) (asks u w k n : ℕ) → Put d l 0 n (1831 * k) (linesText ws k u w) → k ≤ asks → asks ≤ k
-    → Put d l 0 n (1831 * asks) (linesText ws asks u w)
+pub lines-ended : (ws d l : List ℕ) (asks u w k n : ℕ) → Put d l 0 n (LINE * k) (linesText ws k u w) → k ≤ asks → asks ≤ k
+    → Put d l 0 n (LINE * asks) (linesText ws asks u w)
 lines-ended ws d l asks u w k n h a b = let e : k ≡ asks = omega arith in rw e at h
 
 -- the line of a refusal

@@ -36,10 +36,6 @@ put-join d d′ d″ at k r m n ws vs l f g = record {
 pub put-most : (d d′ : List ℕ) (at r m n : ℕ) (ws : List ℕ) → Put d d′ at r m ws → m ≤ n → Put d d′ at r n ws
 put-most d d′ at r m n ws h l = record { bytes = h .bytes; end = h .end; short = omega (arith, h .short) }
 
--- the same text by another name
-pub put-as : (d d′ : List ℕ) (at r m : ℕ) (ws vs : List ℕ) → Put d d′ at r m ws → ws ≡ vs → Put d d′ at r m vs
-put-as d d′ at r m ws vs h e = subst (Put d d′ at r m) e h
-
 -- a text from the first place on, which there is room for, is written there
 pub put-written : (d d′ : List ℕ) (r m : ℕ) (ws : List ℕ) → Put d d′ 0 r m ws → m ≤ length d → length d′ ≡ length d → Written ws d d′ r
 unfolding spliced

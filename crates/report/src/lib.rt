@@ -5,7 +5,15 @@ ghost use Prim.Native.Nat.{_+_, _*_, _%_, _<_, _≤_};
 ghost use lib.ListN.{length};
 ghost use Rattle.model.specs.Lines.{digitsTo, numberText, wordsText, scheduleText, markText, bestText, blockText, lineText, linesText};
 ghost use Rattle.model.specs.Lines.{refusalText, soundText, ruleText};
+ghost use Rattle.report.specs.Lengths.{STARTS, SCHEDULE, MARK, BLOCK, LINE, TEXT};
+ghost use Rattle.report.specs.Parts.{startsText, spentText};
 ghost use Rattle.report.specs.Put.{Put, Whole, Listed};
+
+// The most bytes that a line takes.
+pub const LINE: usize = 1831;
+
+// 2^16: the bytes to be lent, in which the lines of 32 asks have room.
+pub const TEXT: usize = 65536;
 
 // ---- bytes
 
@@ -63,13 +71,6 @@ fn put_number(text: &mut [u8], at: usize, x: u64) -> usize
     put_digits(text, next, x, 20)
 }
 
-// A word as a number of 64 bits.
-fn wide(word: u32) -> u64
-    ensures { λ r. ⌜ r ≡ word ⌝ }
-{
-    word as u64
-}
-
 // The n words from a place on, each behind a space.
 fn put_words(text: &mut [u8], at: usize, answers: &[u32], place: usize, n: usize) -> usize
     requires { ⌜ (at + 21 * n ≤ length (now text)) × (place + n ≤ length (now answers)) ⌝ }
@@ -77,7 +78,7 @@ fn put_words(text: &mut [u8], at: usize, answers: &[u32], place: usize, n: usize
 {
     let mut next = at;
     for i in 0..n {
-        let more = put_number(text, next, wide(answers[place + i]));
+        let more = put_number(text, next, words::widen(answers[place + i]) as u64);
         next = more;
     }
     next
@@ -85,22 +86,30 @@ fn put_words(text: &mut [u8], at: usize, answers: &[u32], place: usize, n: usize
 
 // ---- the line of an ask, by its block of u units and w weeks at place b
 
+// The cost and the starts.
+fn put_starts(text: &mut [u8], at: usize, answers: &[u32], b: usize, u: usize) -> usize
+    requires { ⌜ (u ≤ 16) × (b + 2 + u ≤ length (now answers)) × (at + STARTS ≤ length (now text)) ⌝ }
+    ensures { λ r. ⌜ Put (now (text .entry)) (now (text .exit)) at r STARTS (startsText (now (answers .entry)) b u) ⌝ }
+{
+    let cost = put_number(text, at, words::widen(answers[b + 1]) as u64);
+    let starts = put_bytes(text, cost, b" starts");
+    put_words(text, starts, answers, b + 2, u)
+}
+
 // The cost, the starts and the run numbers.
 fn put_schedule(text: &mut [u8], at: usize, answers: &[u32], b: usize, u: usize, w: usize) -> usize
-    requires { ⌜ Whole (length (now answers)) b u w × (at + 1460 ≤ length (now text)) ⌝ }
-    ensures { λ r. ⌜ Put (now (text .entry)) (now (text .exit)) at r 1460 (scheduleText (now (answers .entry)) b u w) ⌝ }
+    requires { ⌜ Whole (length (now answers)) b u w × (at + SCHEDULE ≤ length (now text)) ⌝ }
+    ensures { λ r. ⌜ Put (now (text .entry)) (now (text .exit)) at r SCHEDULE (scheduleText (now (answers .entry)) b u w) ⌝ }
 {
-    let cost = put_number(text, at, wide(answers[b + 1]));
-    let starts = put_bytes(text, cost, b" starts");
-    let run = put_words(text, starts, answers, b + 2, u);
+    let run = put_starts(text, at, answers, b, u);
     let runs = put_bytes(text, run, b" run");
     put_words(text, runs, answers, b + 2 + u, w)
 }
 
 // The mark, its missing starts 0.
 fn put_mark(text: &mut [u8], at: usize, answers: &[u32], b: usize, u: usize, w: usize) -> usize
-    requires { ⌜ Whole (length (now answers)) b u w × (at + 341 ≤ length (now text)) ⌝ }
-    ensures { λ r. ⌜ Put (now (text .entry)) (now (text .exit)) at r 341 (markText (now (answers .entry)) b u w) ⌝ }
+    requires { ⌜ Whole (length (now answers)) b u w × (at + MARK ≤ length (now text)) ⌝ }
+    ensures { λ r. ⌜ Put (now (text .entry)) (now (text .exit)) at r MARK (markText (now (answers .entry)) b u w) ⌝ }
 {
     let starts = put_bytes(text, at, b" mark");
     put_words(text, starts, answers, b + 2 + u + w, u)
@@ -108,18 +117,27 @@ fn put_mark(text: &mut [u8], at: usize, answers: &[u32], b: usize, u: usize, w: 
 
 // A best schedule before a mark.
 fn put_best(text: &mut [u8], at: usize, answers: &[u32], b: usize, u: usize, w: usize) -> usize
-    requires { ⌜ Whole (length (now answers)) b u w × (at + 1806 ≤ length (now text)) ⌝ }
-    ensures { λ r. ⌜ Put (now (text .entry)) (now (text .exit)) at r 1806 (bestText (now (answers .entry)) b u w) ⌝ }
+    requires { ⌜ Whole (length (now answers)) b u w × (at + BLOCK ≤ length (now text)) ⌝ }
+    ensures { λ r. ⌜ Put (now (text .entry)) (now (text .exit)) at r BLOCK (bestText (now (answers .entry)) b u w) ⌝ }
 {
     let best = put_bytes(text, at, b" best");
     let mark = put_schedule(text, best, answers, b, u, w);
     put_mark(text, mark, answers, b, u, w)
 }
 
+// A mark alone.
+fn put_spent(text: &mut [u8], at: usize, answers: &[u32], b: usize, u: usize, w: usize) -> usize
+    requires { ⌜ Whole (length (now answers)) b u w × (at + BLOCK ≤ length (now text)) ⌝ }
+    ensures { λ r. ⌜ Put (now (text .entry)) (now (text .exit)) at r BLOCK (spentText (now (answers .entry)) b u w) ⌝ }
+{
+    let spent = put_bytes(text, at, b" spent");
+    put_mark(text, spent, answers, b, u, w)
+}
+
 // What the ask is told, by its status.
 fn put_block(text: &mut [u8], at: usize, answers: &[u32], b: usize, u: usize, w: usize) -> usize
-    requires { ⌜ Whole (length (now answers)) b u w × (at + 1806 ≤ length (now text)) ⌝ }
-    ensures { λ r. ⌜ Put (now (text .entry)) (now (text .exit)) at r 1806 (blockText (now (answers .entry)) b u w) ⌝ }
+    requires { ⌜ Whole (length (now answers)) b u w × (at + BLOCK ≤ length (now text)) ⌝ }
+    ensures { λ r. ⌜ Put (now (text .entry)) (now (text .exit)) at r BLOCK (blockText (now (answers .entry)) b u w) ⌝ }
 {
     let status = answers[b];
     if status == 1 {
@@ -132,14 +150,13 @@ fn put_block(text: &mut [u8], at: usize, answers: &[u32], b: usize, u: usize, w:
     if status == 3 {
         return put_best(text, at, answers, b, u, w);
     }
-    let spent = put_bytes(text, at, b" spent");
-    put_mark(text, spent, answers, b, u, w)
+    put_spent(text, at, answers, b, u, w)
 }
 
 // The line of ask k, from 0.
 fn put_line(text: &mut [u8], at: usize, answers: &[u32], k: usize, u: usize, w: usize) -> usize
-    requires { ⌜ Whole (length (now answers)) (k * (2 + 2 * u + w)) u w × (at + 1831 ≤ length (now text)) × (k < 32) ⌝ }
-    ensures { λ r. ⌜ Put (now (text .entry)) (now (text .exit)) at r 1831 (lineText (now (answers .entry)) k u w) ⌝ }
+    requires { ⌜ Whole (length (now answers)) (k * (2 + 2 * u + w)) u w × (at + LINE ≤ length (now text)) × (k < 32) ⌝ }
+    ensures { λ r. ⌜ Put (now (text .entry)) (now (text .exit)) at r LINE (lineText (now (answers .entry)) k u w) ⌝ }
 {
     let ask = put_bytes(text, at, b"ask");
     let number = put_number(text, ask, (k + 1) as u64);
@@ -151,8 +168,8 @@ fn put_line(text: &mut [u8], at: usize, answers: &[u32], k: usize, u: usize, w: 
 
 // The lines of all asks.
 pub fn lines(text: &mut [u8], answers: &[u32], asks: usize, u: usize, w: usize) -> usize
-    requires { ⌜ Listed (length (now answers)) asks u w × (65536 ≤ length (now text)) ⌝ }
-    ensures { λ r. ⌜ Put (now (text .entry)) (now (text .exit)) 0 r (1831 * asks) (linesText (now (answers .entry)) asks u w) ⌝ }
+    requires { ⌜ Listed (length (now answers)) asks u w × (TEXT ≤ length (now text)) ⌝ }
+    ensures { λ r. ⌜ Put (now (text .entry)) (now (text .exit)) 0 r (LINE * asks) (linesText (now (answers .entry)) asks u w) ⌝ }
 {
     let mut next = 0;
     for k in 0..asks {
@@ -168,7 +185,7 @@ pub fn refusal(text: &mut [u8], number: u32, place: usize) -> usize
     ensures { λ r. ⌜ Put (now (text .entry)) (now (text .exit)) 0 r 50 (refusalText number place) ⌝ }
 {
     let refused = put_bytes(text, 0, b"refused");
-    let first = put_number(text, refused, wide(number));
+    let first = put_number(text, refused, words::widen(number) as u64);
     let second = put_number(text, first, place as u64);
     put_byte(text, second, 10)
 }
@@ -189,6 +206,6 @@ pub fn rule(text: &mut [u8], formula: u32) -> usize
     ensures { λ r. ⌜ Put (now (text .entry)) (now (text .exit)) 0 r 26 (ruleText formula) ⌝ }
 {
     let word = put_bytes(text, 0, b"rule");
-    let number = put_number(text, word, wide(formula));
+    let number = put_number(text, word, words::widen(formula) as u64);
     put_byte(text, number, 10)
 }

@@ -6,7 +6,6 @@ use mathlib.Core.Bool.{true, false}
 use mathlib.Core.List.{List}
 use lib.ListN.{length}
 use Rattle.model.specs.declared.Layout.{Layout}
-use Rattle.model.specs.Words.{problemOf}
 use Rattle.model.specs.Grid.{States, isMaint}
 use Rattle.instance.specs.Filed.{Filed}
 
@@ -14,9 +13,6 @@ use Rattle.instance.specs.Filed.{Filed}
 pub record Gridded (ws g : List ℕ) (l : Layout) : Type 0 where
   pub filed : Filed ws l
   pub full : length g ≡ l .weeks * l .units
-  -- the layout's numbers are the problem's; `filed` says so too, but here a proof finds it where it stands
-  pub weeks-are : problemOf ws .weeks ≡ l .weeks
-  pub units-are : problemOf ws .units ≡ l .units
 
 -- a is the first of w weeks in which unit i is in maintenance, w where there is none
 pub record FirstOut (w : ℕ) (x : States) (i a : ℕ) : Type 0 where

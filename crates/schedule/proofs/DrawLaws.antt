@@ -22,7 +22,7 @@ use Rattle.model.specs.Verdict.{accepted, refused}
 use Rattle.model.specs.Reading.{readOf}
 use Rattle.model.specs.Drawing.{drawVerdict, drawnInto}
 use Rattle.instance.specs.Filed.{Filed}
-use Rattle.instance.proofs.FiledLaws.{filed, units-are, cells-are}
+use Rattle.instance.proofs.FiledLaws.{filed, cells-are}
 use Rattle.decoder.specs.declared.Verdict.{Verdict}
 use Rattle.decoder.specs.declared.Verdict.the-variants.{Accepted, Refused}
 use Rattle.decoder.specs.Answers.{verdictOf}
@@ -63,7 +63,7 @@ module _ (ws : List ℕ) (l : Layout) (f : Filed ws l) where
   -- byte q tells the state of its week and unit
   pub byte-state : (x : States) (q r : ℕ) → r ≡ x (q / l .units) (q % l .units) → r ≡ stateAt (problemOf ws) x q
   unfolding stateAt
-  byte-state x q r e = rw (units-are ws l f) e
+  byte-state x q r e = rw (f .units-are) e
 
   -- all bytes of the grid
   pub bytes-ended : (s : Schedule) (d g : List ℕ) (k : ℕ) → g ≡ listTo k (stateAt (problemOf ws) (layOut (problemOf ws) s)) ++ drop k d

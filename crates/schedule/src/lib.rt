@@ -29,7 +29,7 @@ fn overhauled(words: &[u32], starts: &[u32], l: Layout, t: usize, i: usize) -> b
     requires { ⌜ (t < l .weeks) × (i < l .units) ⌝ }
     ensures { λ r. ⌜ r ≡ inSpan (getD (now (starts .entry)) i 0) (problemOf (now (words .entry)) .duration i) t ⌝ }
 {
-    let start = instance::wide(number_at(starts, i));
+    let start = words::widen(number_at(starts, i));
     let duration = instance::duration(words, l, i);
     if t + 1 < start {
         return false;

@@ -17,23 +17,20 @@ use Rattle.model.specs.Words.{problemOf}
 use Rattle.model.specs.Domain.{permitted, startsBelow, startCount}
 use Rattle.model.specs.Schedule.{Schedule, Sound}
 use Rattle.model.specs.Prefix.{prefixes}
-use Rattle.model.specs.Nogood.{Nogood}
+use Rattle.model.specs.Nogood.{MOST_LIMIT, Nogood}
 use Rattle.model.specs.Answer.{optimal, Correct}
 use Rattle.model.specs.Asks.{concludes}
 use Rattle.model.proofs.DomainLaws.{permits-below}
-use Rattle.model.proofs.FileLaws.{ranged}
+use Rattle.model.proofs.FileLaws.{ranged, fair}
 use Rattle.instance.specs.declared.Euro.{Euro}
 use Rattle.instance.specs.Filed.{Filed}
 use Rattle.blame.specs.Closed.{startIn}
-use Rattle.blame.specs.Placed.{placed}
 use Rattle.nogood.specs.Noting.{endBounds, endUsed, ended}
 use Rattle.nogood.specs.Stock.{Stock, Grown, DeadEnds}
 use Rattle.nogood.proofs.StockLaws.{grown-next, stock-ended, ended-room, ended-length}
 use Rattle.bound.specs.declared.Trial.{Trial}
 use Rattle.bound.specs.declared.Trial.the-variants.{Holds, Fails}
-use Rattle.bound.specs.Rows.{Rows}
-use Rattle.relaxation.specs.Relaxed.{priceIn}
-use Rattle.bound.specs.Tests.{Blames, AllStand, AllBlame, Fronts, Rooted, noStart, someStartless, RunsOf, Permits}
+use Rattle.bound.specs.Tests.{Blames, AllStand, AllBlame, Fronts, Rooted, RootDue, noStart, someStartless, RunsOf, Permits}
 use Rattle.bound.proofs.RowLaws.{rows-none}
 use Rattle.state.specs.declared.State.{State}
 use Rattle.state.specs.declared.Step.{Step}
@@ -41,8 +38,9 @@ use Rattle.state.specs.declared.Walked.{Walked}
 use Rattle.state.specs.declared.Walked.the-variants.{Dead, Spent}
 use Rattle.state.specs.State.{deadAt, withTable, Concluded, Begun}
 use Rattle.search.specs.declared.Reply.{Reply}
-use Rattle.search.specs.Walk.{Incumbent, Held, Open, Ends, Done, AllSettled, Fresh, Closes, Finished}
-use Rattle.search.specs.Ask.{answerFor, answerIn, Asked}
+use Rattle.search.specs.declared.Visit.{Visit}
+use Rattle.search.specs.Walk.{Incumbent, Held, PlaceDue, PlaceDone, Ends, AllSettled, AtRoot, WalkDue, Closes, Finished}
+use Rattle.search.specs.Ask.{answerFor, answerIn, ReplyDue, ReplyOf, AskDue, Asked}
 use Rattle.search.proofs.StateLaws.{later-same}
 use Rattle.search.proofs.ReplyLaws.{answer-correct, never-spent}
 
@@ -69,94 +67,120 @@ startless-none p fair e s sound =
 blame-nobody : (p : Problem) (starts : ℕ → ℕ) (limit b : ℕ) → Blames p starts 0 limit b → AllSettled p limit
 blame-nobody p starts limit b h = record { costs = λ s sound. h .closed .costs s sound (λ i l e. nobody-below (h .within i e)) }
 
-module _ (p : Problem) (budget : ℕ) (w : List ℕ) (st : State) where
-  -- a unit has no permitted start
-  pub finished-startless : Fair p → someStartless p ≡ true → Finished p budget w w st (deadAt st 0)
-  finished-startless fair e = record { later = later-same p w st; closes = record { costs = λ s sound. absurd (startless-none p fair e s sound) } }
+-- a unit has no permitted start
+pub finished-startless : (ws : List ℕ) (l : Layout) (us w memo : List ℕ) (st : State) (some : Bool) (step : Step) → WalkDue ws l us st w memo
+    → some ≡ someStartless (problemOf ws) → some ≡ true → step ≡ deadAt st 0 → Finished (problemOf ws) w w st step
+finished-startless ws l us w memo st some step d e so is = subst (Finished (problemOf ws) w w st) (sym is) (record {
+  later = later-same (problemOf ws) w st;
+  closes = record {
+    costs = λ s sound. absurd (startless-none (problemOf ws) (fair ws (d .walking .filed .passed)) (sym e ∙ so) s sound);
+  };
+})
 
-  -- before any unit is placed nothing is left below the limit
-  pub finished-root : (b : ℕ) → AllBlame p (st .limit .0) b → Finished p budget w w st (deadAt st 0)
-  finished-root b h = record { later = later-same p w st; closes = blame-nobody p (λ i. 0) (st .limit .0) b (h .each (λ i. 0)) }
+-- none is without
+pub all-start : (p : Problem) (st : State) (some : Bool) (step : Step) → some ≡ someStartless p → some ≡ false → someStartless p ≡ true
+    → step ≡ deadAt st 0
+all-start p st some step e none so = true-false (sym so ∙ (sym e ∙ none))
 
 -- ---- a walk that does
 
--- no unit is placed
-pub opened-first : (p : Problem) (w us costs rows ys xs : List ℕ) (sum : ℕ) (st : State) → 0 < p .units → p .units ≤ length xs → Fresh p w st
-    → AllStand p (priceIn us) costs ys sum → Rows p (placed p (startIn xs) 0) rows → Open p w us costs rows ys xs 0 sum st
-opened-first p w us costs rows ys xs sum st some long f stands tallied = record {
-  unit = some;
-  long = long;
-  stands = stands .each (startIn xs);
-  tallied = tallied;
-  settled = record { costs = λ s sound l. nobody-below (l .below) };
-  past = λ e. true-false (sym e ∙ f .nothing);
-  counted = omega (arith, f .tries);
-  small = f .small;
-  held = f .held;
-}
+module _ (ws : List ℕ) (l : Layout) (us w memo : List ℕ) (st : State) (d : WalkDue ws l us st w memo) where
+  f : Filed ws l
+  f = d .walking .filed
+
+  -- what the root asks
+  pub walk-root : RootDue ws l us (st .limit .0)
+  walk-root = record { filed = f; dual = d .walking .dual; small = d .fresh .small }
+
+  module _ (v : Trial) (said : Rooted (problemOf ws) us (st .limit .0) v) where
+    -- before any unit is placed nothing is left below the limit
+    pub walk-fails : (b : ℕ) (step : Step) → v ≡ Fails b → step ≡ deadAt st 0 → Finished (problemOf ws) w w st step
+    walk-fails b step e is =
+        let h : AllBlame (problemOf ws) (st .limit .0) b = subst (Rooted (problemOf ws) us (st .limit .0)) e said in
+        subst (Finished (problemOf ws) w w st) (sym is) (record {
+          later = later-same (problemOf ws) w st;
+          closes = blame-nobody (problemOf ws) (λ i. 0) (st .limit .0) b (h .each (λ i. 0));
+        })
+
+    -- no unit is placed
+    pub walk-places : (c : Euro) (rows ys : List ℕ) (at : Visit) → v ≡ Holds c → rows ≡ replicate 52 0 → Fronts us ys → AtRoot (c .0) st at
+        → PlaceDue ws l us rows ys at w memo
+    unfolding PlaceDue
+    walk-places c rows ys at e none fronts root =
+        let g = ranged ws (f .passed) in
+        let stands : AllStand (problemOf ws) us ys (c .0) = subst (Rooted (problemOf ws) us (st .limit .0)) e said ys fronts in
+        record {
+          walking = d .walking;
+          open-at = record {
+            unit = omega (arith, root .none, g .units-some);
+            long = omega (arith, root .long, g .units-most);
+            stands = rw (root .none, root .bound-is) (stands .each (startIn (at .node .starts)));
+            tallied = rw (root .none) (rows-none (problemOf ws) (startIn (at .node .starts)) rows none);
+            settled = record { costs = λ s sound l. nobody-below (subst (λ (k : ℕ). l .at < k) (root .none) (l .below)) };
+            past = λ q. true-false (sym q ∙ (ap (λ (x : State). x .found) (root .same) ∙ d .fresh .nothing));
+            counted = omega (arith, ap (λ (x : State). x .tries) (root .same), d .fresh .tries);
+            small = rw (root .same) (d .fresh .small);
+            held = rw (root .same) (d .fresh .held);
+          };
+        }
 
 -- all units were placed in turn
-pub finished-place : (p : Problem) (budget : ℕ) (w w′ xs : List ℕ) (room : ℕ) (st : State) (step : Step) → Done p budget w w′ xs 0 room st step
-    → Finished p budget w w′ st step
-finished-place p budget w w′ xs room st step d = record { later = d .later; closes = go (step .walked) (d .ends) }
+pub walk-placed : (p : Problem) (w w′ : List ℕ) (c : ℕ) (st : State) (at : Visit) (step : Step) → AtRoot c st at → PlaceDone p w w′ (at .node) (at .state) step
+    → Finished p w w′ st step
+unfolding PlaceDone
+walk-placed p w w′ c st at step root done = record { later = rw (root .same) at (done .later); closes = rw (root .same) at (go (step .walked) (done .ends)) }
   where
-    go : (k : Walked) → Ends p budget xs 0 (step .state) k → Closes p budget (step .state) k
-    go (Dead b) o = record { costs = λ s sound. o .closed .costs s sound (λ i l e. nobody-below (o .within i e)) }
+    go : (k : Walked) → Ends p (at .state .budget) (at .node .starts) (at .node .unit) (step .state) k → Closes p (at .state .budget) (step .state) k
+    go (Dead b) o = record {
+      costs = λ s sound. o .closed .costs s sound (λ i l e. nobody-below (subst (λ (k : ℕ). i < k) (root .none) (o .within i e)));
+    }
     go (Spent m) h = h
 
--- the same on a file's words
-module _ (ws : List ℕ) (l : Layout) (us costs roots : List ℕ) (f : Filed ws l) (budget : ℕ) (w : List ℕ) (st : State) (v : Trial)
-    (said : Rooted (problemOf ws) (priceIn us) costs roots (st .limit .0) v) where
-  -- the root fails
-  pub root-fails : (b : ℕ) → v ≡ Fails b → Finished (problemOf ws) budget w w st (deadAt st 0)
-  root-fails b e = finished-root (problemOf ws) budget w st b (subst (Rooted (problemOf ws) (priceIn us) costs roots (st .limit .0)) e said)
+-- ---- the runs of a best
 
-  -- it holds
-  pub root-opens : (c : Euro) (rows ys xs : List ℕ) → v ≡ Holds c → 16 ≤ length xs → rows ≡ replicate 52 0 → Fronts roots ys → Fresh
-      (problemOf ws) w st
-      → Open (problemOf ws) w us costs rows ys xs 0 (c .0) st
-  root-opens c rows ys xs e long none fronts fresh =
-      let g = ranged ws (f .passed) in
-      opened-first (problemOf ws) w us costs rows ys xs (c .0) st (omega (arith, g .units-some)) (omega (arith, g .units-most)) fresh
-      (subst (Rooted (problemOf ws) (priceIn us) costs roots (st .limit .0)) e said ys fronts) (rows-none (problemOf ws) (startIn xs) rows none)
+pub runs-asked : (p : Problem) (st : State) → (st .found ≡ true → Permits p (startIn (st .best))) → st .found ≡ true → Permits p (startIn (st .best))
+runs-asked p st h e = h e
+
+pub runs-none : (p : Problem) (st : State) (runs : List ℕ) → st .found ≡ false → st .found ≡ true → RunsOf p (startIn (st .best)) runs
+runs-none p st runs e so = true-false (sym so ∙ e)
 
 -- ---- the ask
 
 -- it begins with no schedule and its own ceiling
-pub fresh-of : (p : Problem) (ceiling used : ℕ) (w : List ℕ) (st : State) → ceiling < 268435456 → Held p w used → Begun ceiling used st → Fresh p w st
-fresh-of p ceiling used w st h held b = record {
-  nothing = b .nothing;
-  tries = b .tries;
-  small = omega (arith, b .limit);
-  held = subst (Held p w) (sym (b .used)) held;
+pub ask-begins : (ws : List ℕ) (l : Layout) (us : List ℕ) (ceiling budget used : ℕ) (w memo : List ℕ) (st : State)
+    → AskDue ws l us ceiling w used memo → Begun ceiling budget used st → WalkDue ws l us st w memo
+ask-begins ws l us ceiling budget used w memo st d b = record {
+  walking = d .walking;
+  fresh = record {
+    nothing = b .nothing;
+    tries = b .tries;
+    small = omega (arith, b .limit, d .ceiled);
+    held = subst (Held (problemOf ws) w) (sym (b .used)) (d .held);
+  };
 }
 
-module _ (p : Problem) (ceiling budget used : ℕ) (w w′ : List ℕ) (st : State) (step : Step) (b : Begun ceiling used st)
-    (f : Finished p budget w w′ st step) where
+module _ (p : Problem) (ceiling budget used : ℕ) (w w′ : List ℕ) (st : State) (step : Step) (b : Begun ceiling budget used st)
+    (ended-so : Finished p w w′ st step) where
   -- the best so far at the end
   led : Incumbent p ceiling (step .state)
-  led = f .later .kept ceiling (record {
+  led = ended-so .later .kept ceiling (record {
     under = omega (arith, b .limit);
     none = λ e. b .limit;
     plan = λ e. true-false (sym e ∙ b .nothing);
   })
 
   -- a plan's starts are permitted
-  pub best-permits : step .state .found ≡ true → Permits p (startIn (step .state .best))
+  best-permits : step .state .found ≡ true → Permits p (startIn (step .state .best))
   best-permits e = record { each = led .plan e .sound .schedule .permits }
 
   -- there is space for the end of the walk
-  pub end-fits : used < length w → Held p w used → step .state .used < length w′
+  end-fits : used < length w → Held p w used → step .state .used < length w′
   end-fits h held =
-      let r = f .later .carried .room (length w - 1) (omega (arith, b .used)) (omega arith) in
-      omega (arith, r, f .later .carried .long)
+      let r = ended-so .later .carried .room (length w - 1) (omega (arith, b .used)) (omega arith) in
+      omega (arith, r, ended-so .later .carried .long)
 
-  end-small : ceiling < 268435456 → step .state .limit .0 ≤ 268435456
-  end-small h = omega (arith, f .later .falls, b .limit)
-
-  -- what the conclusion of a walk needs
-  pub end-asked : ceiling < 268435456 → used < length w → Held p w used → (step .state .used < length w′) × (step .state .limit .0 ≤ 268435456)
-  end-asked h k held = (end-fits k held, end-small h)
+  end-small : ceiling < MOST_LIMIT → step .state .limit .0 ≤ MOST_LIMIT
+  end-small h = omega (arith, ended-so .later .falls, b .limit)
 
   -- the bounds alone that the answer stands for are those that the conclusion adds
   ends-as : (runs : List ℕ) (e : Bool) → step .state .found ≡ e → (b′ : ℕ)
@@ -171,7 +195,7 @@ module _ (p : Problem) (ceiling budget used : ℕ) (w w′ : List ℕ) (st : Sta
   ends-as runs false q b′ = rw (led .none q, ne-eqb (ceiling + 1) 0 (λ z. omega arith)) (ap (λ (n : ℕ). n ∷ [])
       (let e : ceiling ≡ ceiling + 1 - 1 = omega arith in e))
 
-  module _ (fair : Fair p) (small : ceiling < 268435456) (space : used < length w) (held : Held p w used) (runs : List ℕ)
+  module _ (fair : Fair p) (small : ceiling < MOST_LIMIT) (space : used < length w) (held : Held p w used) (runs : List ℕ)
       (are : step .state .found ≡ true → RunsOf p (startIn (step .state .best)) runs)
       (idle : someStartless p ≡ true → step ≡ deadAt st 0) (w″ : List ℕ) where
     -- a unit without starts settles it at once
@@ -179,13 +203,15 @@ module _ (p : Problem) (ceiling budget used : ℕ) (w w′ : List ℕ) (st : Sta
     settled-idle e = (ap (λ (x : Step). x .walked) (idle e), ap (λ (x : Step). x .state .tries) (idle e) ∙ b .tries)
 
     correct : Correct p ceiling budget (answerIn p (step .state) runs (step .walked))
-    correct = answer-correct p fair ceiling budget (step .state) runs led are (step .walked) (f .closes)
+    correct =
+        answer-correct p fair ceiling budget (step .state) runs led are (step .walked)
+        (subst (λ (n : ℕ). Closes p n (step .state) (step .walked)) (b .budget-is) (ended-so .closes))
 
     stock-walked : (gs : List Nogood) → Stock p gs w used → Grown p DeadEnds gs w′ (step .state .used)
-    stock-walked gs s = f .later .carried .stock gs (subst (Stock p gs w) (sym (b .used)) s)
+    stock-walked gs s = ended-so .later .carried .stock gs (subst (Stock p gs w) (sym (b .used)) s)
 
     room-walked : (n : ℕ) → used ≤ n → length w - 32 ≤ n → step .state .used ≤ n
-    room-walked n h g = f .later .carried .room n (omega (arith, b .used)) g
+    room-walked n h g = ended-so .later .carried .room n (omega (arith, b .used)) g
 
     -- a walk that ended unspent
     asked-dead : (b′ : ℕ) → step .walked ≡ Dead b′ → w″ ≡ ended w′ (step .state .used) (step .state .limit .0)
@@ -198,7 +224,7 @@ module _ (p : Problem) (ceiling budget used : ℕ) (w w′ : List ℕ) (st : Sta
     asked-dead b′ e t = record {
       correct = correct;
       stock = λ gs s.
-          let settled : AllSettled p (step .state .limit .0) = subst (Closes p budget (step .state)) e (f .closes) in
+          let settled : AllSettled p (step .state .limit .0) = subst (Closes p (st .budget) (step .state)) e (ended-so .closes) in
           let new = grown-next p gs w′ (step .state .used) [] (endBounds (step .state .limit .0)) (ended w′ (step .state .used) (step .state .limit .0))
           (endUsed (step .state .used) (step .state .limit .0)) (stock-walked gs s) (λ hs h. stock-ended p hs w′ (step .state .used)
           (step .state .limit .0) h (end-fits space held) (end-small small) (settled .costs)) in
@@ -206,7 +232,7 @@ module _ (p : Problem) (ceiling budget used : ℕ) (w w′ : List ℕ) (st : Sta
           ap (λ (k : Walked). concludes ceiling (answerIn p (step .state) runs k)) e ∙ ends-as runs (step .state .found) refl b′ in
           rw (t, same) new;
       room = λ n h g. omega (arith, ended-room (step .state .used) (step .state .limit .0), room-walked n h g);
-      long = ap length t ∙ (ended-length w′ (step .state .used) (step .state .limit .0) ∙ f .later .carried .long);
+      long = ap length t ∙ (ended-length w′ (step .state .used) (step .state .limit .0) ∙ ended-so .later .carried .long);
       untried = settled-idle;
       small = end-small small;
     }
@@ -227,13 +253,13 @@ module _ (p : Problem) (ceiling budget used : ℕ) (w w′ : List ℕ) (st : Sta
           ap (λ (k : Walked). concludes ceiling (answerIn p (step .state) runs k)) e ∙ spent-nothing (step .state .found) m in
           rw (t, same) (stock-walked gs s);
       room = λ n h g. omega (arith, room-walked n h g);
-      long = ap length t ∙ f .later .carried .long;
+      long = ap length t ∙ ended-so .later .carried .long;
       untried = settled-idle;
       small = end-small small;
     }
 
     -- the ask is answered
-    pub asked : (r : State) → Concluded w′ w″ (step .state) r (step .walked)
+    asked : (r : State) → Concluded w′ w″ (step .state) r (step .walked)
         → Asked p ceiling budget w used w″ (record { state = r; walked = step .walked; runs = runs })
     asked r c = go (step .walked) refl c
       where
@@ -245,6 +271,25 @@ module _ (p : Problem) (ceiling budget used : ℕ) (w w′ : List ℕ) (st : Sta
         go (Spent m) e d =
             subst (λ (x : State). Asked p ceiling budget w used w″ (record { state = x; walked = step .walked; runs = runs })) (sym (d .0))
             (asked-spent m e (d .1))
+
+module _ (ws : List ℕ) (l : Layout) (us : List ℕ) (ceiling budget used : ℕ) (w memo w′ : List ℕ) (st : State) (step : Step)
+    (d : AskDue ws l us ceiling w used memo) (b : Begun ceiling budget used st) (e : Finished (problemOf ws) w w′ st step) where
+  -- what the reply asks
+  pub ask-replies : ReplyDue ws l step w′
+  ask-replies = record {
+    filed = d .walking .filed;
+    permits = best-permits (problemOf ws) ceiling budget used w w′ st step b e;
+    room = end-fits (problemOf ws) ceiling budget used w w′ st step b e (d .room) (d .held);
+    small = end-small (problemOf ws) ceiling budget used w w′ st step b e (d .ceiled);
+  }
+
+  -- the ask is answered
+  pub ask-answered : (w″ : List ℕ) (r : Reply) → (someStartless (problemOf ws) ≡ true → step ≡ deadAt st 0)
+      → ReplyOf (problemOf ws) step w′ w″ r → Asked (problemOf ws) ceiling budget w used w″ r
+  ask-answered w″ r idle m =
+      subst (λ (k : Walked). Asked (problemOf ws) ceiling budget w used w″ (record { state = r .state; walked = k; runs = r .runs })) (sym (m .walked-is))
+      (asked (problemOf ws) ceiling budget used w w′ st step b e (fair ws (d .walking .filed .passed)) (d .ceiled) (d .room) (d .held) (r .runs)
+      (m .runs-are) idle w″ (r .state) (m .concluded))
 
 -- AN ASK WHOSE BUDGET IS AT LEAST THE NUMBER OF PLACES IS NEVER SPENT
 pub asked-unspent : (p : Problem) → Fair p → (ceiling budget : ℕ) (w : List ℕ) (used : ℕ) (w′ : List ℕ) (r : Reply)

@@ -1,126 +1,382 @@
--- What the calls of the walk ask and give on a file's words, where the layout's numbers are the problem's.
+-- What the calls of the walk ask and give, in the words of its two functions: a unit is placed, a start is tried.
 -- Assumes nothing.
-use Prim.Native.Nat.{ℕ, _+_, _≤_, _<_}
-use mathlib.Core.Path.{_≡_, ap, subst}
+use Prim.Native.Nat.{ℕ, suc, _+_, _*_, _-_, _≤_, _<_}
+use mathlib.Core.Path.{_≡_, refl, sym, _∙_, ap, subst}
+use mathlib.Core.Bool.{Bool, true, false}
 use mathlib.Core.List.{List}
 use native.Mathlib.Nat.{le-trans}
 use native.Mathlib.Omega.{arith}
-use lib.ListN.{length}
+use lib.ListN.{length, set}
+use Rattle.sums.specs.NumSet.{has}
+use Rattle.sums.proofs.LogicLaws.{true-false}
 use Rattle.model.specs.declared.Layout.{Layout}
+use Rattle.model.specs.Problem.{Problem}
+use Rattle.model.specs.Prefix.{treeSize}
+use Rattle.model.specs.Nogood.{MOST_LIMIT}
 use Rattle.model.specs.Words.{problemOf}
-use Rattle.model.proofs.FileLaws.{ranged, fair}
+use Rattle.model.proofs.FileLaws.{fair}
 use Rattle.instance.specs.declared.Euro.{Euro}
 use Rattle.instance.specs.Filed.{Filed}
-use Rattle.instance.proofs.FiledLaws.{weeks-are, units-are}
 use Rattle.overhaul.specs.Range.{StartRange}
 use Rattle.blame.specs.Closed.{startIn}
 use Rattle.blame.specs.Placed.{placed}
 use Rattle.nogood.proofs.StockLaws.{stock-within}
-use Rattle.relaxation.specs.Relaxed.{priceIn}
+use Rattle.tables.specs.Tables.{priceIn}
+use Rattle.relaxation.specs.Relaxed.{Recalls}
+use Rattle.dual.specs.declared.Node.{Node}
+use Rattle.dual.specs.Blame.{nextNode}
 use Rattle.bound.specs.declared.Trial.{Trial}
 use Rattle.bound.specs.declared.Trial.the-variants.{Holds, Fails}
 use Rattle.bound.specs.Rows.{Rows}
-use Rattle.bound.specs.Tests.{Stands, Judged}
+use Rattle.bound.specs.Tests.{Due, Stands, Judged}
 use Rattle.state.specs.declared.State.{State}
 use Rattle.state.specs.declared.Step.{Step}
-use Rattle.state.specs.State.{triedOnce, deadAt, Learnt}
-use Rattle.search.specs.Walk.{Open, Untried, Ready, Leaf, Done, tryRoom, placeRoom}
+use Rattle.state.specs.declared.Walked.{Walked}
+use Rattle.state.specs.declared.Walked.the-variants.{Dead, Spent}
+use Rattle.state.specs.State.{triedOnce, stoppedAt, deadAt, Learnt}
+use Rattle.search.specs.declared.Visit.{Visit}
+use Rattle.search.specs.declared.Turn.{Turn}
+use Rattle.search.specs.declared.Tried.{Tried}
+use Rattle.search.specs.Walk.{startAt, IsStart, Open, Walking, PlaceNeeds, PlaceDue, TryNeeds, TryDue, Judging, TryJudged, nextVisit, Deeper, TryTaken, PlaceDone, TryDone, Leaves, GoesOn, Shares, TurnOf, Done, tryRoom, placeRoom, LeafDue, Leaf}
 use Rattle.search.proofs.StateLaws.{held-later}
+use Rattle.search.proofs.PlaceLaws.{places-to-try, places-to-place}
 use Rattle.search.proofs.LearntLaws.{later-learnt}
-use Rattle.search.proofs.TryLaws.{done-fails, opened, done-leaf, done-place}
-use Rattle.search.proofs.UnitLaws.{Trying, done-all}
+use Rattle.search.proofs.TryLaws.{done-stopped, done-fails, opened, done-leaf, done-place}
+use Rattle.search.proofs.UnitLaws.{Trying, trying-none, some-start, untried, done-spent, done-jump, trying-more, done-all}
 
-module _ (ws : List ℕ) (l : Layout) (f : Filed ws l) where
-  -- the last start lies in the problem's weeks
-  pub ends-weeks : (last : ℕ) → last ≤ l .weeks → last ≤ problemOf ws .weeks
-  ends-weeks last h = rw (weeks-are ws l f) h
+-- the same file and table, with a memory that has changed
+walking-on : (ws : List ℕ) (l : Layout) (us memo memo′ : List ℕ) → Walking ws l us memo → Recalls (problemOf ws) (priceIn us) memo′
+    → Walking ws l us memo′
+walking-on ws l us memo memo′ h r = record { filed = h .filed; dual = h .dual; recalls = r }
 
-  -- ---- a unit
+-- ---- a unit is placed
 
-  module _ (w us costs rows ys xs : List ℕ) (j sum : ℕ) (st : State) (o : Open (problemOf ws) w us costs rows ys xs j sum st) where
-    -- it is one of the file's
-    pub open-unit : j < l .units
-    open-unit = omega (arith, o .unit, units-are ws l f)
+-- a unit was open in a state and with a table; its starts from the first to the last are tried, and those below v have failed
+pub record Starting (ws : List ℕ) (l : Layout) (us rows ys : List ℕ) (node : Node) (st : State) (w : List ℕ) (first last : ℕ) (w₁ : List ℕ) (s : State)
+    (blame v : ℕ) (memo : List ℕ) : Type 0 where
+  pub walking : Walking ws l us memo
+  pub open-at : Open (problemOf ws) w us rows ys node st
+  pub inside : node .unit < problemOf ws .units
+  pub range : StartRange (problemOf ws) (node .unit) first last
+  pub ends : last ≤ problemOf ws .weeks
+  pub trying : Trying (problemOf ws) w w₁ (node .starts) (node .unit) st s blame first v
 
-    -- one of sixteen
-    pub open-few : j < 16
-    open-few = omega (arith, o .unit, ranged ws (f .passed) .units-most)
+-- as one fact
+unfoldable pub Starts : (ws : List ℕ) → Layout → (us rows ys : List ℕ) → Node → State → (w : List ℕ) → (first last : ℕ) → (w₁ : List ℕ) → State
+    → (blame v : ℕ) → (memo : List ℕ) → Type 0
+Starts ws l us rows ys node st w first last w₁ s blame v memo = Starting ws l us rows ys node st w first last w₁ s blame v memo
 
-    module _ (w′ : List ℕ) (st′ : State) (blame first v : ℕ) (t : Trying (problemOf ws) w w′ xs j st st′ blame first v) where
-      -- a dead end can be noted
-      pub learnt-asked : (st′ .used ≤ length w′) × (j ≤ 16) × (st′ .limit .0 ≤ 268435456)
-      learnt-asked = (
-        stock-within (held-later (problemOf ws) w w′ st st′ (o .held) (t .later) .stock),
-        omega (arith, open-few),
-        le-trans
-            (t .later .falls) (o .small),
-      )
+module _ (ws : List ℕ) (l : Layout) (us rows ys : List ℕ) (at : Visit) (w memo : List ℕ) (d : PlaceDue ws l us rows ys at w memo) where
+  abbrev p : Problem
+  p = problemOf ws
 
-      -- all starts have failed, and the dead end was noted or not
-      pub done-learnt : (budget last : ℕ) (w″ : List ℕ) (r : State) → StartRange (problemOf ws) j first last → last < v
-          → Learnt w′ w″ st′ r xs j blame
-          → Done (problemOf ws) budget w w″ xs j (placeRoom (problemOf ws) j) st (deadAt r blame)
-      done-learnt budget last w″ r range ended k =
-          done-all (problemOf ws) w w′ us costs rows ys xs j sum st st′ blame first last v range o t ended budget w″ r
-          (λ closed. later-learnt (problemOf ws) w′ w″ st′ r xs j blame (omega (arith, o .unit)) (le-trans (t .later .falls) (o .small))
-          (o .stands .standing .permits) (t .under) closed k)
-          (ap (λ (s : State). s .limit) (k .state)) (ap (λ (s : State). s .tries) (k .state)) (ap (λ (s : State). s .found) (k .state))
-          (ap (λ (s : State). s .best) (k .state))
+  f : Filed ws l
+  unfolding PlaceDue Starts
+  f = d .walking .filed
 
-  -- ---- a start
+  -- it has a file
+  pub place-filed : Filed ws l
+  unfolding PlaceDue
+  place-filed = d .walking .filed
 
-  -- what its tests ask
-  pub try-ready : (w us costs rows ys xs : List ℕ) (j sum : ℕ) (st : State) → Untried (problemOf ws) w us costs rows ys xs j sum st
-      → Ready (problemOf ws) w us costs rows ys xs j sum (st .limit .0) (st .used)
-  try-ready w us costs rows ys xs j sum st d = record {
-    unit = d .unit;
-    permits = d .permits;
-    stands = d .stands;
-    tallied = d .tallied;
-    small = d .small;
-    held = d .held;
+  -- all units are placed
+  pub place-leaf : l .units ≤ at .node .unit → LeafDue ws l us rows ys at memo
+  unfolding PlaceDue LeafDue
+  place-leaf last = record {
+    walking = d .walking;
+    whole = omega (arith, d .open-at .unit, f .units-are);
+    stands = d .open-at .stands;
+    tallied = d .open-at .tallied;
+    small = d .open-at .small;
   }
 
-  module _ (budget : ℕ) (w us costs rows ys xs : List ℕ) (j sum : ℕ) (st : State) (d : Untried (problemOf ws) w us costs rows ys xs j sum st)
-      (zs : List ℕ) (v : Trial) (said : Judged (problemOf ws) (priceIn us) costs (startIn xs) (j + 1) (st .limit .0) zs v) where
-    -- it fails
-    pub try-fails : (b : ℕ) → v ≡ Fails b → Done (problemOf ws) budget w w xs (j + 1) (tryRoom (problemOf ws) j) st (deadAt (triedOnce st) b)
-    try-fails b e =
-        done-fails (problemOf ws) budget w us costs rows ys xs j sum st d b
-        (subst (Judged (problemOf ws) (priceIn us) costs (startIn xs) (j + 1) (st .limit .0) zs) e said)
+  -- and the schedule was weighed
+  pub place-weighed : (step : Step) → l .units ≤ at .node .unit → Leaf (problemOf ws) (at .node .starts) (at .state) step
+      → PlaceDone (problemOf ws) w w (at .node) (at .state) step
+  unfolding PlaceDue PlaceDone
+  place-weighed step last h =
+      done-leaf (problemOf ws) w us rows ys (at .node) (at .state) (d .open-at) (fair ws (f .passed)) (omega (arith, d .open-at .unit, f .units-are)) step h
 
-    module _ (c : Euro) (e : v ≡ Holds c) where
-      holds : Stands (problemOf ws) (priceIn us) costs (startIn xs) (j + 1) zs (c .0)
-      holds = subst (Judged (problemOf ws) (priceIn us) costs (startIn xs) (j + 1) (st .limit .0) zs) e said
+  -- no start was tried
+  pub place-starts : (first last : ℕ) → at .node .unit < l .units → StartRange (problemOf ws) (at .node .unit) first last → last ≤ l .weeks
+      → Starts ws l us rows ys (at .node) (at .state) w first last w (at .state) 0 first memo
+  unfolding PlaceDue Starts
+  place-starts first last inside range ends =
+      let in-units : at .node .unit < p .units = omega (arith, f .units-are) in
+      record {
+        walking = d .walking;
+        open-at = d .open-at;
+        inside = in-units;
+        range = range;
+        ends = omega (arith, f .weeks-are);
+        trying = trying-none p w us rows ys (at .node) (at .state) first last range in-units (d .open-at);
+      }
 
-      module _ (last : l .units ≤ j + 1) where
-        whole : j + 1 ≡ l .units
-        whole = omega (arith, d .unit, units-are ws l f)
+module _ (ws : List ℕ) (l : Layout) (us rows ys : List ℕ) (node : Node) (st : State) (w : List ℕ) (first last : ℕ) (w₁ : List ℕ) (s : State)
+    (blame v : ℕ) (memo₁ : List ℕ) (h : Starts ws l us rows ys node st w first last w₁ s blame v memo₁) where
+  abbrev prob : Problem
+  prob = problemOf ws
 
-        -- it holds, and was the last unit's: all units stand
-        pub leaf-stands : Stands (problemOf ws) (priceIn us) costs (startIn xs) (l .units) zs (c .0)
-        leaf-stands = subst (λ (k : ℕ). Stands (problemOf ws) (priceIn us) costs (startIn xs) k zs (c .0)) whole holds
+  t : Trying (problemOf ws) w w₁ (node .starts) (node .unit) st s blame first v
+  unfolding Starts TryDue TryDone PlaceDone
+  t = h .trying
 
-        -- and so do the rows
-        pub leaf-rows : (next : List ℕ) → Rows (problemOf ws) (placed (problemOf ws) (startIn xs) (j + 1)) next
-            → Rows (problemOf ws) (placed (problemOf ws) (startIn xs) (l .units)) next
-        leaf-rows next r = subst (λ (k : ℕ). Rows (problemOf ws) (placed (problemOf ws) (startIn xs) k) next) whole r
+  -- a unit is one of sixteen
+  pub starts-few : node .unit < 16
+  unfolding Starts TryDue TryDone PlaceDone
+  starts-few = omega (arith, h .inside, h .walking .filed .units-are, h .walking .filed .units-most)
 
-        -- the leaf was weighed
-        pub try-leaf : (step : Step) → Leaf (problemOf ws) xs (triedOnce st) step
-            → Done (problemOf ws) budget w w xs (j + 1) (tryRoom (problemOf ws) j) st step
-        try-leaf step h =
-            done-leaf (problemOf ws) budget w us costs rows ys xs j sum st d (fair ws (f .passed)) (rw (units-are ws l f) last)
-            (holds .standing) step h
+  pub starts-small : node .unit < 32
+  unfolding Starts TryDue TryDone PlaceDone
+  starts-small = omega (arith, starts-few)
 
-      -- it holds, and the next unit is to be placed
-      pub try-opens : (next : List ℕ) → j + 1 < l .units → Rows (problemOf ws) (placed (problemOf ws) (startIn xs) (j + 1)) next
-          → Open (problemOf ws) w us costs next zs xs (j + 1) (c .0) (triedOnce st)
-      try-opens next more tallied =
-          opened (problemOf ws) budget w us costs rows ys xs j sum st d next zs (c .0) (rw (units-are ws l f) more) holds tallied
+  -- a start is one of 52
+  pub starts-within : v ≤ last → v ≤ 52
+  unfolding Starts TryDue TryDone PlaceDone
+  starts-within here = omega (arith, h .ends, h .walking .filed .weeks-are, h .walking .filed .weeks-most)
 
-  -- the next unit was placed
-  pub try-placed : (budget : ℕ) (w w′ xs : List ℕ) (j : ℕ) (st : State) (step : Step) → j + 1 < l .units
-      → Done (problemOf ws) budget w w′ xs (j + 1) (placeRoom (problemOf ws) (j + 1)) (triedOnce st) step
-      → Done (problemOf ws) budget w w′ xs (j + 1) (tryRoom (problemOf ws) j) st step
-  try-placed budget w w′ xs j st step h d = done-place (problemOf ws) budget w w′ xs j st step (rw (units-are ws l f) h) d
+  -- so the next one fits a word
+  pub starts-fit : v ≤ last → v + 1 < 18446744073709551616
+  unfolding Starts TryDue TryDone PlaceDone
+  starts-fit here = omega (arith, starts-within here)
+
+  -- a dead end can be noted
+  pub starts-noted : (s .used ≤ length w₁) × (node .unit ≤ 16) × (s .limit .0 ≤ MOST_LIMIT)
+  unfolding Starts TryDue TryDone PlaceDone
+  starts-noted = (
+    stock-within (held-later prob w w₁ st s (h .open-at .held) (t .later) .stock),
+    omega (arith, starts-few),
+    le-trans (t .later .falls) (h .open-at .small),
+  )
+
+  -- the memory recalls
+  pub starts-recalls : Recalls (problemOf ws) (priceIn us) memo₁
+  unfolding Starts TryDue TryDone PlaceDone
+  starts-recalls = h .walking .recalls
+
+  -- all starts have failed, and the dead end was noted or not
+  pub starts-done : (w₂ : List ℕ) (r : State) (step : Step) → last < v → Learnt w₁ w₂ s r (node .starts) (node .unit) blame
+      → step ≡ deadAt r blame → PlaceDone (problemOf ws) w w₂ node st step
+  unfolding Starts TryDue TryDone PlaceDone
+  starts-done w₂ r step ended k is =
+      subst (PlaceDone prob w w₂ node st) (sym is)
+      (done-all prob w w₁ us rows ys node st s blame first last v (h .range) (h .inside) (h .open-at) t ended w₂ r
+      (λ closed. later-learnt prob w₁ w₂ s r (node .starts) (node .unit) blame (omega (arith, h .inside)) (le-trans (t .later .falls)
+      (h .open-at .small)) (h .open-at .stands .standing .permits) (t .under) closed k)
+      (ap (λ (x : State). x .limit) (k .state)) (ap (λ (x : State). x .tries) (k .state)) (ap (λ (x : State). x .found) (k .state))
+      (ap (λ (x : State). x .best) (k .state)) (ap (λ (x : State). x .budget) (k .state)))
+
+  module _ (here : v ≤ last) (next : Visit) (start : IsStart node v s next) where
+    -- the next start is tried
+    pub starts-try : TryDue ws l us rows ys next w₁ memo₁
+    unfolding Starts TryDue
+    starts-try = subst (λ (x : Visit). TryNeeds ws l us rows ys x w₁ memo₁) (sym (start .is)) (record {
+      walking = h .walking;
+      untried = untried prob w w₁ us rows ys node st s blame first last v (h .range) (h .ends) (h .inside) (h .open-at) t here;
+    })
+
+    -- with fewer places at and below it
+    pub starts-fall : (n : ℕ) → 2 * treeSize (problemOf ws) (problemOf ws .units - node .unit) - 1 ≡ n
+        → 2 * treeSize (problemOf ws) (problemOf ws .units - suc (next .node .unit)) < n
+    unfolding Starts
+    starts-fall n e =
+        subst (λ (x : Visit). 2 * treeSize prob (prob .units - suc (x .node .unit)) < n) (sym (start .is))
+        (subst (λ (x : ℕ). 2 * treeSize prob (prob .units - suc (node .unit)) < x) e
+        (places-to-try prob (node .unit) (h .inside)
+        (some-start prob w w₁ us rows ys node st s blame first last v (h .range) (h .ends) (h .inside) (h .open-at) t here)))
+
+    module _ (w₂ : List ℕ) (step : Step) (done : TryDone (problemOf ws) w₁ w₂ next step) (turn : Turn) (told : TurnOf step blame (node .unit) turn) where
+      own : Done (problemOf ws) w₁ w₂ (set (node .starts) (node .unit) v) (node .unit + 1) (tryRoom (problemOf ws) (node .unit)) s step
+      unfolding TryDone
+      own = subst (λ (x : Visit). TryDone prob w₁ w₂ x step) (start .is) done
+
+      -- the budget is spent, or the unit has no share in the dead end: the walk jumps back
+      left : turn .left ≡ true → PlaceDone (problemOf ws) w w₂ node st step
+      unfolding Starts PlaceDone
+      left so = go (step .walked) refl (told .leaves so)
+        where
+          go : (k : Walked) → step .walked ≡ k → Leaves (node .unit) k
+              → Done (problemOf ws) w w₂ (node .starts) (node .unit) (placeRoom (problemOf ws) (node .unit)) st step
+          go (Spent m) e _ =
+              done-spent prob w w₁ us rows ys node st s blame first last v (h .range) (h .ends) (h .inside) (h .open-at) t here w₂ step own m e
+          go (Dead b) e free =
+              done-jump prob w w₁ us rows ys node st s blame first last v (h .range) (h .ends) (h .inside) (h .open-at) t here w₂ step own b e free
+
+      -- it shares it: the next start
+      next-start : (memo₂ : List ℕ) → turn .left ≡ false → Recalls (problemOf ws) (priceIn us) memo₂
+          → Starts ws l us rows ys node st w first last w₂ (step .state) (turn .blame) (v + 1) memo₂
+      unfolding Starts
+      next-start memo₂ so recalls = go (step .walked) refl (told .goes-on so)
+        where
+          go : (k : Walked) → step .walked ≡ k → GoesOn blame (node .unit) (turn .blame) k
+              → Starting ws l us rows ys node st w first last w₂ (step .state) (turn .blame) (v + 1) memo₂
+          go (Spent m) e x = absurd x
+          go (Dead b) e union = record {
+            walking = walking-on ws l us memo₁ memo₂ (h .walking) recalls;
+            open-at = h .open-at;
+            inside = h .inside;
+            range = h .range;
+            ends = h .ends;
+            trying = trying-more prob w w₁ us rows ys node st s blame first last v (h .range) (h .ends) (h .inside) (h .open-at) t here w₂ step own b e
+                (turn .blame) (union .sets);
+          }
+
+-- the same two with the facts that a search tells apart first
+pub starts-left : (ws : List ℕ) (l : Layout) (us rows ys : List ℕ) (node : Node) (st : State) (w : List ℕ) (first last : ℕ) (w₁ : List ℕ) (s : State)
+    (blame v : ℕ) (memo₁ : List ℕ) (next : Visit) (w₂ : List ℕ) (step : Step) (turn : Turn)
+    → Starts ws l us rows ys node st w first last w₁ s blame v memo₁ → IsStart node v s next → TryDone (problemOf ws) w₁ w₂ next step
+    → TurnOf step blame (node .unit) turn → v ≤ last → turn .left ≡ true → PlaceDone (problemOf ws) w w₂ node st step
+starts-left ws l us rows ys node st w first last w₁ s blame v memo₁ next w₂ step turn h start done told here =
+    left ws l us rows ys node st w first last w₁ s blame v memo₁ h here next start w₂ step done turn told
+
+pub starts-next : (ws : List ℕ) (l : Layout) (us rows ys : List ℕ) (node : Node) (st : State) (w : List ℕ) (first last : ℕ) (w₁ : List ℕ) (s : State)
+    (blame v : ℕ) (memo₁ : List ℕ) (next : Visit) (w₂ : List ℕ) (step : Step) (turn : Turn) (memo₂ : List ℕ)
+    → Starts ws l us rows ys node st w first last w₁ s blame v memo₁ → IsStart node v s next → TryDone (problemOf ws) w₁ w₂ next step
+    → TurnOf step blame (node .unit) turn → Recalls (problemOf ws) (priceIn us) memo₂ → v ≤ last → turn .left ≡ false
+    → Starts ws l us rows ys node st w first last w₂ (step .state) (turn .blame) (v + 1) memo₂
+starts-next ws l us rows ys node st w first last w₁ s blame v memo₁ next w₂ step turn memo₂ h start done told recalls here so =
+    next-start ws l us rows ys node st w first last w₁ s blame v memo₁ h here next start w₂ step done turn told memo₂ so recalls
+
+-- a table keeps its length
+pub place-long : (p : Problem) (w₀ w w′ : List ℕ) (at : Visit) (step : Step) → TryDone p w w′ at step → length w ≡ length w₀ → length w′ ≡ length w₀
+unfolding TryDone
+place-long p w₀ w w′ at step d e = d .later .carried .long ∙ e
+
+-- what follows on a start, by how the walk came back from it
+module _ (step : Step) (blame j : ℕ) (w : Walked) (is : step .walked ≡ w) where
+  pub turn-spent : (m : ℕ) (turn : Turn) → w ≡ Spent m → turn .left ≡ true → TurnOf step blame j turn
+  turn-spent m turn e so = record {
+    leaves = λ _. subst (Leaves j) (sym (is ∙ e)) tt;
+    goes-on = λ z. true-false (sym so ∙ z);
+  }
+
+  pub turn-shared : (b both : ℕ) (shares : Bool) (turn : Turn) → w ≡ Dead b → Shares blame b j both → turn .left ≡ false → turn .blame ≡ both
+      → TurnOf step blame j turn
+  turn-shared b both shares turn e union so eb = record {
+    leaves = λ z. true-false (sym z ∙ so);
+    goes-on = λ _. subst (GoesOn blame j (turn .blame)) (sym (is ∙ e)) (subst (Shares blame b j) (sym eb) union);
+  }
+
+  pub turn-free : (b : ℕ) (shares : Bool) (turn : Turn) → w ≡ Dead b → shares ≡ has b j → shares ≡ false → turn .left ≡ true → TurnOf step blame j turn
+  turn-free b shares turn e q free so = record {
+    leaves = λ _. subst (Leaves j) (sym (is ∙ e)) (sym q ∙ free);
+    goes-on = λ z. true-false (sym so ∙ z);
+  }
+
+-- ---- a start is tried
+
+module _ (ws : List ℕ) (l : Layout) (us rows ys : List ℕ) (at : Visit) (w memo : List ℕ) (d : TryDue ws l us rows ys at w memo) where
+  file : Filed ws l
+  unfolding TryDue PlaceDue TryDone PlaceDone
+  file = d .walking .filed
+
+  -- and a memory
+  pub try-recalls : Recalls (problemOf ws) (priceIn us) memo
+  unfolding TryDue
+  try-recalls = d .walking .recalls
+
+  -- the weeks' worths have 52 places
+  pub try-long : 52 ≡ length ys
+  unfolding TryDue
+  try-long = sym (d .untried .stands .bounds .worths .long)
+
+  -- its unit is one of sixteen
+  pub try-few : at .node .unit < 16
+  unfolding TryDue PlaceDue TryDone PlaceDone
+  try-few = omega (arith, d .untried .unit, file .units-are, file .units-most)
+
+  -- the next unit's number fits a word
+  pub try-fits : at .node .unit + 1 < 18446744073709551616
+  unfolding TryDue PlaceDue TryDone PlaceDone
+  try-fits = omega (arith, try-few)
+
+  -- the budget is spent
+  pub try-stops : (k : ℕ) (step : Step) → k ≡ at .node .unit + 1 → at .state .budget ≤ at .state .tries
+      → step ≡ stoppedAt (at .state) (at .node .starts) k → TryDone (problemOf ws) w w at step
+  unfolding TryDue PlaceDue TryDone PlaceDone
+  try-stops k step e h is =
+      subst (TryDone (problemOf ws) w w at) (sym is) (done-stopped (problemOf ws) w us rows ys (at .node) (at .state) (d .untried) k e h)
+
+-- where the walk goes on after a verdict
+pub deeper-fails : (at next : Visit) (v : Trial) (b : ℕ) (s : State) (r : Tried) → s ≡ triedOnce (at .state) → v ≡ Fails b → r .trial ≡ Fails b
+    → r .at .node ≡ at .node → r .at .state ≡ s → Deeper at v r
+deeper-fails at next v b s r es e et en est = record { trial-is = et ∙ sym e; goes-to = rw (e, ← es, ← en, ← est) refl }
+
+pub deeper-holds : (at : Visit) (v : Trial) (c : Euro) (s : State) (node : Node) (r : Tried) → s ≡ triedOnce (at .state) → node ≡ nextNode (at .node) c
+    → v ≡ Holds c → r .trial ≡ Holds c → r .at .node ≡ node → r .at .state ≡ s → Deeper at v r
+deeper-holds at v c s node r es eno e et en est = record { trial-is = et ∙ sym e; goes-to = rw (e, ← es, ← eno, ← en, ← est) refl }
+
+-- the start is judged within the budget
+module _ (ws : List ℕ) (l : Layout) (us rows ys : List ℕ) (at : Visit) (w memo zs memo₁ : List ℕ) (v : Trial)
+    (j : TryJudged ws l us rows ys at w memo zs memo₁ v) where
+  -- its unit is one of sixteen
+  pub judged-few : at .node .unit < 16
+  unfolding TryJudged
+  judged-few = omega (arith, j .due .untried .unit, j .due .walking .filed .units-are, j .due .walking .filed .units-most)
+
+  pub judged-taken : (r : Tried) → Deeper at v r → TryTaken ws l us rows ys at w memo zs memo₁ r
+  unfolding TryJudged TryTaken
+  judged-taken r d = record {
+    judging = subst (Judging ws l us rows ys at w memo zs memo₁) (sym (d .trial-is)) j;
+    goes-to = d .goes-to ∙ ap (nextVisit at) (sym (d .trial-is));
+  }
+
+module _ (ws : List ℕ) (l : Layout) (us rows ys : List ℕ) (at : Visit) (w memo zs memo₁ : List ℕ) (r : Tried)
+    (j : TryTaken ws l us rows ys at w memo zs memo₁ r) where
+  its-file : Filed ws l
+  unfolding TryTaken
+  its-file = j .judging .due .walking .filed
+
+  -- the file, and the memory as it recalls now
+  pub taken-filed : Filed ws l
+  taken-filed = its-file
+
+  pub taken-recalls : Recalls (problemOf ws) (priceIn us) memo₁
+  unfolding TryTaken
+  taken-recalls = j .judging .recalls
+
+  -- what its rows ask
+  pub taken-rows : Due (problemOf ws) rows (startIn (at .node .starts)) (at .node .unit)
+  unfolding TryTaken
+  taken-rows =
+      let u = j .judging .due .untried in
+      record { unit = u .unit; permits = u .permits; tallied = u .tallied }
+
+  -- it fails
+  pub taken-fails : (b : ℕ) (s : State) (step : Step) → r .trial ≡ Fails b → s ≡ r .at .state → step ≡ deadAt s b → TryDone (problemOf ws) w w at step
+  unfolding TryTaken TryDone
+  taken-fails b s step t es is =
+      let g : s ≡ triedOnce (at .state) = es ∙ (ap (λ (x : Visit). x .state) (j .goes-to) ∙ ap (λ (x : Trial). nextVisit at x .state) t) in
+      subst (TryDone (problemOf ws) w w at) (sym (is ∙ ap (λ (x : State). deadAt x b) g))
+      (done-fails (problemOf ws) w us rows ys (at .node) (at .state) (j .judging .due .untried) b
+      (subst (Judged (problemOf ws) us (at .node) (at .state .limit .0) zs) t (j .judging .said)))
+
+  module _ (c : Euro) (e : r .trial ≡ Holds c) where
+    goes : r .at ≡ record { node = nextNode (at .node) c; state = triedOnce (at .state) }
+    unfolding TryTaken
+    goes = j .goes-to ∙ ap (nextVisit at) e
+
+    -- it holds, and the next unit is to be placed
+    pub taken-places : (out : List ℕ) → Rows (problemOf ws) (placed (problemOf ws) (startIn (at .node .starts)) (at .node .unit + 1)) out
+        → PlaceDue ws l us out zs (r .at) w memo₁
+    unfolding TryTaken PlaceDue
+    taken-places out tallied = subst (λ (x : Visit). PlaceNeeds ws l us out zs x w memo₁) (sym goes) (record {
+      walking = walking-on ws l us memo memo₁ (j .judging .due .walking) (j .judging .recalls);
+      open-at = opened (problemOf ws) w us rows ys (at .node) (at .state) (j .judging .due .untried) out zs c
+          (subst (Judged (problemOf ws) us (at .node) (at .state .limit .0) zs) e (j .judging .said)) tallied;
+    })
+
+    -- with fewer places below it
+    pub taken-falls : (n : ℕ) → 2 * treeSize (problemOf ws) (problemOf ws .units - suc (at .node .unit)) ≡ n
+        → 2 * treeSize (problemOf ws) (problemOf ws .units - r .at .node .unit) - 1 < n
+    taken-falls n en =
+        subst (λ (x : Visit). 2 * treeSize (problemOf ws) (problemOf ws .units - x .node .unit) - 1 < n) (sym goes)
+        (subst (λ (x : ℕ). 2 * treeSize (problemOf ws) (problemOf ws .units - (at .node .unit + 1)) - 1 < x) en
+        (places-to-place (problemOf ws) (at .node .unit)))
+
+    -- it was
+    pub taken-placed : (w₂ : List ℕ) (step : Step) → PlaceDone (problemOf ws) w w₂ (r .at .node) (r .at .state) step → TryDone (problemOf ws) w w₂ at step
+    unfolding TryDone PlaceDone
+    taken-placed w₂ step done =
+        done-place (problemOf ws) w w₂ (at .node .starts) (at .node .unit) (at .state) step
+        (subst (λ (x : Visit). PlaceDone (problemOf ws) w w₂ (x .node) (x .state) step) goes done)

@@ -1,4 +1,4 @@
--- A start judged: by a noted conflict that is met, or by the tests of its weeks and its cost.
+-- A start judged: by a noted conflict that is met, or by the tests of its weeks and its cost; and a schedule of all units weighed.
 -- Assumes nothing.
 use Prim.Native.Nat.{ℕ, _+_, _≤_, _<_}
 use mathlib.Core.Path.{_≡_, sym, _∙_, ap, subst}
@@ -7,91 +7,194 @@ use mathlib.Core.List.{List}
 use native.Mathlib.Decide.{decLe}
 use native.Mathlib.Omega.{arith}
 use lib.Dec.{ltb}
+use lib.ListN.{length}
 use borrow.Author.Tests.{ltb-true}
 use Rattle.sums.specs.NumSet.{has}
 use Rattle.model.specs.declared.Layout.{Layout}
+use Rattle.model.specs.Nogood.{MOST_LIMIT}
 use Rattle.model.specs.Words.{problemOf}
 use Rattle.model.proofs.FileLaws.{ranged, fair}
 use Rattle.instance.specs.declared.Euro.{Euro}
 use Rattle.instance.specs.Filed.{Filed}
-use Rattle.instance.proofs.FiledLaws.{units-are}
 use Rattle.blame.specs.Closed.{startIn}
 use Rattle.blame.specs.Placed.{firstUnits, placed, paid}
 use Rattle.blame.proofs.ClosedLaws.{closed-more}
 use Rattle.blame.proofs.PlacedLaws.{leaf-closed}
+use Rattle.memo.specs.Memo.{Right, Others}
 use Rattle.nogood.specs.declared.Hit.{Hit}
 use Rattle.nogood.specs.declared.Hit.the-variants.{Cut}
 use Rattle.nogood.specs.Recall.{Recall, Recalled}
 use Rattle.nogood.proofs.StockLaws.{recall-closed}
-use Rattle.relaxation.specs.Relaxed.{priceIn}
-use Rattle.dual.specs.Dual.{worthIn, Blamed}
-use Rattle.bound.specs.Tests.{Blames, Due, Stands}
+use Rattle.tables.specs.Tables.{priceIn, totalIn}
+use Rattle.relaxation.specs.Relaxed.{Recalls}
+use Rattle.relaxation.proofs.ValueLaws.{recalls-others}
+use Rattle.dual.specs.Blame.{Blamed}
+use Rattle.bound.specs.Rows.{Rows}
+use Rattle.bound.specs.declared.Trial.{Trial}
+use Rattle.bound.specs.declared.Trial.the-variants.{Fails}
+use Rattle.bound.specs.Tests.{Blames, Judged, TestDue}
 use Rattle.state.specs.declared.State.{State}
 use Rattle.state.specs.declared.Step.{Step}
 use Rattle.state.specs.State.{deadAt, improvedBy}
-use Rattle.search.specs.Walk.{Ready, Leaf}
+use Rattle.search.specs.declared.Visit.{Visit}
+use Rattle.search.specs.Walk.{TryDue, TryJudged, LeafDue, BetterDue, Better, Leaf}
 
-module _ (ws : List ℕ) (l : Layout) (w us costs rows ys xs : List ℕ) (j sum limit used : ℕ) (f : Filed ws l)
-    (d : Ready (problemOf ws) w us costs rows ys xs j sum limit used) where
+-- ---- a start
+
+module _ (ws : List ℕ) (l : Layout) (us rows ys : List ℕ) (at : Visit) (w memo : List ℕ) (d : TryDue ws l us rows ys at w memo) where
+  f : Filed ws l
+  unfolding TryDue
+  f = d .walking .filed
+
   -- a unit is one of sixteen
-  pub unit-few : j < 16
-  unit-few = omega (arith, d .unit, ranged ws (f .passed) .units-most)
+  pub test-few : at .node .unit < 16
+  unfolding TryDue
+  test-few = omega (arith, d .untried .unit, ranged ws (f .passed) .units-most)
 
-  -- what the tests of a start ask
-  pub test-due : Due (problemOf ws) rows (startIn xs) j
-  test-due = record { unit = d .unit; permits = d .permits; tallied = d .tallied }
-
-  -- the cost so far, and the limit
-  pub test-stands : Stands (problemOf ws) (priceIn us) costs (startIn xs) j ys sum × (limit ≤ 268435456)
-  test-stands = (d .stands, d .small)
+  -- what the tests of its start ask
+  pub test-due : TestDue ws l us rows (at .node) (at .state .limit .0) ys memo
+  unfolding TryDue
+  test-due = record {
+    filed = f;
+    dual = d .walking .dual;
+    due = record { unit = d .untried .unit; permits = d .untried .permits; tallied = d .untried .tallied };
+    stands = d .untried .stands;
+    small = d .untried .small;
+    recalls = d .walking .recalls;
+  }
 
   -- a noted conflict is met: its units are to blame
-  pub recall-blames : (h : Hit) (b : ℕ) → h ≡ Cut b → Recalled w xs (j + 1) limit h
-      → Blames (problemOf ws) (startIn xs) (j + 1) limit b
-  recall-blames h b e r =
-      let c : Recall w xs (j + 1) limit b = subst (Recalled w xs (j + 1) limit) e r in
+  judged-recalled : (h : Hit) (b : ℕ) → h ≡ Cut b → Recalled w (at .node .starts) (at .node .unit + 1) (at .state .limit .0) h
+      → Blames (problemOf ws) (startIn (at .node .starts)) (at .node .unit + 1) (at .state .limit .0) b
+  unfolding TryDue
+  judged-recalled h b e r =
+      let c : Recall w (at .node .starts) (at .node .unit + 1) (at .state .limit .0) b
+      = subst (Recalled w (at .node .starts) (at .node .unit + 1) (at .state .limit .0)) e r in
       let g = ranged ws (f .passed) in
       record {
-        closed = recall-closed (problemOf ws) (d .held .nogoods) w xs used (j + 1) limit b (fair ws (f .passed))
-            (omega (arith, g .weeks-most)) (g .units-most) (omega (arith, d .unit)) (d .held .stock) c;
+        closed = recall-closed (problemOf ws) (d .untried .held .nogoods) w (at .node .starts) (at .state .used) (at .node .unit + 1)
+            (at .state .limit .0) b (fair ws (f .passed)) (omega (arith, g .weeks-most)) (g .units-most) (omega (arith, d .untried .unit))
+            (d .untried .held .stock) c;
         within = c .match .within;
       }
 
--- every unit has its start: the schedule costs the limit or more, and all are to blame
-module _ (ws : List ℕ) (l : Layout) (xs : List ℕ) (st : State) (cost : ℕ) (f : Filed ws l)
-    (e : cost ≡ paid (problemOf ws) (placed (problemOf ws) (startIn xs) (l .units))) where
-  paid-all : cost ≡ paid (problemOf ws) (placed (problemOf ws) (startIn xs) (problemOf ws .units))
-  paid-all = e ∙ ap (λ (k : ℕ). paid (problemOf ws) (placed (problemOf ws) (startIn xs) k)) (sym (units-are ws l f))
+  -- it is judged
+  pub judged-so : (zs memo₁ : List ℕ) (v : Trial) → Judged (problemOf ws) us (at .node) (at .state .limit .0) zs v
+      → Recalls (problemOf ws) (priceIn us) memo₁ → TryJudged ws l us rows ys at w memo zs memo₁ v
+  unfolding TryDue TryJudged
+  judged-so zs memo₁ v said recalls = record { due = d; said = said; recalls = recalls }
 
-  all-blames : (b limit : ℕ) → limit ≤ cost → ((i : ℕ) → has b i ≡ ltb i (l .units)) → Blames (problemOf ws) (startIn xs)
-      (problemOf ws .units) limit b
-  unfolding firstUnits
-  all-blames b limit le all =
-      let u = units-are ws l f in
-      record {
-        closed = closed-more (problemOf ws) (firstUnits (problemOf ws .units)) (has b) (startIn xs)
-            (paid (problemOf ws) (placed (problemOf ws) (startIn xs) (problemOf ws .units))) limit (λ i h q. all i ∙ ap (ltb i) (sym u) ∙ q)
-            (omega (arith, paid-all)) (leaf-closed (problemOf ws) (startIn xs) (fair ws (f .passed)));
-        within = λ i q. let h = ltb-true i (l .units) (sym (all i) ∙ q) in omega arith;
-      }
+  pub judged-met : (h : Hit) (b : ℕ) → h ≡ Cut b → Recalled w (at .node .starts) (at .node .unit + 1) (at .state .limit .0) h
+      → TryJudged ws l us rows ys at w memo ys memo (Fails b)
+  unfolding TryDue TryJudged
+  judged-met h b e r = record { due = d; said = judged-recalled h b e r; recalls = d .walking .recalls }
 
-  pub leaf-dear : (b : ℕ) → st .limit .0 ≤ cost → ((i : ℕ) → has b i ≡ ltb i (l .units)) → (step : Step) → step ≡ deadAt st b
-      → Leaf (problemOf ws) xs st step
-  leaf-dear b le all step is = inl (record { b = b; is = is; blames = all-blames b (st .limit .0) le all })
+-- ---- every unit has its start
 
-  -- it costs less: those whose starts keep the bound there are to blame, or all
-  pub leaf-better : (roots : List ℕ) (c : Euro) (sum b : ℕ) → c .0 ≡ cost → cost < st .limit .0
-      → Blamed (problemOf ws) (startIn xs) (l .units) sum (c .0) (worthIn roots 52) b → (step : Step) → step ≡ deadAt (improvedBy st xs c) b
-      → Leaf (problemOf ws) xs st step
-  leaf-better roots c sum b ec less h step is = inr (record {
+-- the schedule of all starts costs no less than a limit: all units are to blame
+all-blames : (ws : List ℕ) (l : Layout) (starts : ℕ → ℕ) (k cost b limit : ℕ) → Filed ws l → k ≡ l .units
+    → cost ≡ paid (problemOf ws) (placed (problemOf ws) starts (l .units)) → limit ≤ cost → ((i : ℕ) → has b i ≡ ltb i k)
+    → Blames (problemOf ws) starts (problemOf ws .units) limit b
+unfolding firstUnits
+all-blames ws l starts k cost b limit f whole e le all =
+    let u : k ≡ problemOf ws .units = omega (arith, f .units-are) in
+    let is : cost ≡ paid (problemOf ws) (placed (problemOf ws) starts (problemOf ws .units))
+    = e ∙ ap (λ (n : ℕ). paid (problemOf ws) (placed (problemOf ws) starts n)) (sym (f .units-are)) in
+    record {
+      closed = closed-more (problemOf ws) (firstUnits (problemOf ws .units)) (has b) starts
+          (paid (problemOf ws) (placed (problemOf ws) starts (problemOf ws .units))) limit (λ i h q. all i ∙ ap (ltb i) u ∙ q) (omega (arith, is))
+          (leaf-closed (problemOf ws) starts (fair ws (f .passed)));
+      within = λ i q. let h = ltb-true i k (sym (all i) ∙ q) in omega (arith, u);
+    }
+
+module _ (ws : List ℕ) (l : Layout) (us rows ys : List ℕ) (at : Visit) (memo : List ℕ) (d : LeafDue ws l us rows ys at memo) where
+  file : Filed ws l
+  unfolding LeafDue
+  file = d .walking .filed
+
+  -- it has a file and a memory
+  pub leaf-filed : Filed ws l
+  unfolding LeafDue
+  leaf-filed = d .walking .filed
+
+  pub leaf-right : Right (problemOf ws) memo
+  unfolding LeafDue
+  leaf-right = d .walking .recalls .costs
+
+  -- the weeks' worths have 52 places
+  pub leaf-long : 52 ≡ length ys
+  unfolding LeafDue
+  leaf-long = sym (d .stands .bounds .worths .long)
+
+  -- what its cost asks
+  pub leaf-rows : Rows (problemOf ws) (placed (problemOf ws) (startIn (at .node .starts)) (l .units)) rows
+  unfolding LeafDue
+  leaf-rows = subst (λ (k : ℕ). Rows (problemOf ws) (placed (problemOf ws) (startIn (at .node .starts)) k) rows) (d .whole) (d .tallied)
+
+  -- there are sixteen units at most
+  pub leaf-few : at .node .unit < 32
+  unfolding LeafDue
+  leaf-few = omega (arith, d .whole, file .units-most)
+
+  -- the memory recalls what it did
+  pub leaf-recalls : (memo₁ : List ℕ) → Right (problemOf ws) memo₁ → Others memo memo₁ → Recalls (problemOf ws) (priceIn us) memo₁
+  unfolding LeafDue
+  leaf-recalls memo₁ = recalls-others (problemOf ws) (priceIn us) memo memo₁ (d .walking .recalls)
+
+  module _ (cost : ℕ) (e : cost ≡ paid (problemOf ws) (placed (problemOf ws) (startIn (at .node .starts)) (l .units))) where
+    -- the schedule costs the limit or more, and all are to blame
+    pub leaf-dear : (b : ℕ) (step : Step) → at .state .limit .0 ≤ cost → ((i : ℕ) → has b i ≡ ltb i (at .node .unit)) → step ≡ deadAt (at .state) b
+        → Leaf (problemOf ws) (at .node .starts) (at .state) step
+    unfolding LeafDue
+    leaf-dear b step le all is = inl (record {
+      b = b;
+      is = is;
+      blames = all-blames ws l (startIn (at .node .starts)) (at .node .unit) cost b (at .state .limit .0) file (d .whole) e le all;
+    })
+
+    -- it costs less
+    pub leaf-due : cost < at .state .limit .0 → BetterDue ws l us ys at cost
+    unfolding LeafDue
+    leaf-due less = record {
+      bounded = record {
+        filed = file;
+        dual = d .walking .dual;
+        placed = omega (arith, d .whole);
+        permits = record { each = d .stands .standing .permits };
+        bounds = d .stands .bounds;
+      };
+      whole = d .whole;
+      small = d .small;
+      costs = e;
+      less = less;
+    }
+
+-- the better one as the leaf has it
+pub leaf-better : (ws xs : List ℕ) (st : State) (step : Step) → Better (problemOf ws) xs st step → Leaf (problemOf ws) xs st step
+leaf-better ws xs st step h = inr h
+
+module _ (ws : List ℕ) (l : Layout) (us ys : List ℕ) (at : Visit) (c : Euro) (d : BetterDue ws l us ys at (c .0)) where
+  -- its cost is a limit
+  pub better-small : c .0 ≤ MOST_LIMIT
+  better-small = omega (arith, d .small, d .less)
+
+  -- those whose starts keep the bound there are to blame, or all
+  pub better-of : (b : ℕ) (s : State) (step : Step) → Blamed (problemOf ws) us (at .node) (c .0) b → s ≡ improvedBy (at .state) (at .node .starts) c
+      → step ≡ deadAt s b → Better (problemOf ws) (at .node .starts) (at .state) step
+  better-of b s step h es is = record {
     c = c;
     b = b;
-    is = is;
-    costs = ec ∙ paid-all;
-    less = omega arith;
-    blames = go (decLe (c .0 + worthIn roots 52) sum);
-  })
+    is = is ∙ ap (λ (x : State). deadAt x b) es;
+    costs = d .costs ∙ ap (λ (k : ℕ). paid (problemOf ws) (placed (problemOf ws) (startIn (at .node .starts)) k)) (sym (d .bounded .filed .units-are));
+    less = d .less;
+    blames = go (decLe (c .0 + totalIn us) (at .node .bound .0));
+  }
     where
-      go : Dec (c .0 + worthIn roots 52 ≤ sum) → Blames (problemOf ws) (startIn xs) (problemOf ws .units) (c .0) b
-      go (yes q) = record { closed = h .closed q; within = λ i g. let k = h .within i g in omega (arith, units-are ws l f) }
-      go (no q) = all-blames b (c .0) (omega arith) (h .all (omega arith))
+      go : Dec (c .0 + totalIn us ≤ at .node .bound .0) → Blames (problemOf ws) (startIn (at .node .starts)) (problemOf ws .units) (c .0) b
+      go (yes q) = record {
+        closed = h .closed q;
+        within = λ i g. let k = h .within i g in omega (arith, d .whole, d .bounded .filed .units-are);
+      }
+      go (no q) =
+          all-blames ws l (startIn (at .node .starts)) (at .node .unit) (c .0) b (c .0) (d .bounded .filed) (d .whole) (d .costs) (omega arith)
+          (h .all (omega arith))

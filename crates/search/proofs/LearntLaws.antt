@@ -9,7 +9,7 @@ use lib.ListN.{length}
 use Rattle.sums.specs.NumSet.{has}
 use Rattle.model.specs.Problem.{Problem}
 use Rattle.model.specs.Domain.{permitted}
-use Rattle.model.specs.Nogood.{Nogood}
+use Rattle.model.specs.Nogood.{MOST_LIMIT, Nogood}
 use Rattle.blame.specs.Closed.{startIn, Closed}
 use Rattle.nogood.specs.Noting.{nogoodFor}
 use Rattle.nogood.specs.Stock.{Grown, DeadEnds}
@@ -19,7 +19,7 @@ use Rattle.state.specs.State.{Learnt}
 use Rattle.search.specs.Walk.{Later}
 
 -- a dead end is noted, or not
-pub later-learnt : (p : Problem) (w w′ : List ℕ) (st r : State) (xs : List ℕ) (k b : ℕ) → k ≤ p .units → st .limit .0 ≤ 268435456
+pub later-learnt : (p : Problem) (w w′ : List ℕ) (st r : State) (xs : List ℕ) (k b : ℕ) → k ≤ p .units → st .limit .0 ≤ MOST_LIMIT
     → ((i : ℕ) → i < k → permitted p i (startIn xs i) ≡ true) → ((i : ℕ) → has b i ≡ true → i < k)
     → Closed p (has b) (startIn xs) (st .limit .0) → Learnt w w′ st r xs k b → Later p w st w′ r
 later-learnt p w w′ st r xs k b few small permits within closed l =

@@ -10,7 +10,7 @@ pub mod JudgedLaws
 pub mod TryLaws
 -- the starts of a unit in turn
 pub mod UnitLaws
--- the same on a file's words
+-- what the two functions of the walk ask and give
 pub mod CallLaws
 -- the answer of a walk that has ended
 pub mod ReplyLaws

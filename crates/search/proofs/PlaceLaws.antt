@@ -43,13 +43,21 @@ unfolding treeSize
 tree-some p zero = omega arith
 tree-some p (suc n) = omega arith
 
--- a place, and those below the starts of the next unit
-pub room-step : (p : Problem) (j : ℕ) → j + 1 < p .units → tryRoom p j ≡ placeRoom p (j + 1) + 1
+-- a place, and those below it
+pub room-step : (p : Problem) (j : ℕ) → tryRoom p j ≡ placeRoom p (j + 1) + 1
+room-step p j =
+    let e : p .units - suc j ≡ p .units - (j + 1) = omega arith in
+    omega (arith, ap (treeSize p) e, tree-some p (p .units - (j + 1)))
+
+-- below a place lie its unit's starts, each with the places at and below it
+pub room-starts : (p : Problem) (j : ℕ) → j < p .units → placeRoom p j ≡ startCount p j * tryRoom p j
 unfolding treeSize
-room-step p j h =
-    let e : p .units - suc j ≡ suc (p .units - suc (j + 1)) = omega arith in
-    let u : p .units - suc (p .units - suc (j + 1)) ≡ j + 1 = omega arith in
-    ap (treeSize p) e ∙ ap (λ (i : ℕ). startCount p i * treeSize p (p .units - suc (j + 1)) + 1) u
+room-starts p j h =
+    let e : p .units - j ≡ suc (p .units - suc j) = omega arith in
+    let u : p .units - suc (p .units - suc j) ≡ j = omega arith in
+    let t : treeSize p (p .units - j) ≡ startCount p j * tryRoom p j + 1
+    = ap (treeSize p) e ∙ ap (λ (i : ℕ). startCount p i * treeSize p (p .units - suc j) + 1) u in
+    omega (arith, t)
 
 -- ---- places passed
 

@@ -7,6 +7,7 @@ use mathlib.Core.List.{List}
 use mathlib.Core.Logic.{inl, inr}
 use native.Mathlib.Omega.{arith}
 use borrow.Author.Count.{below-more}
+use Rattle.sums.specs.NumSet.{has}
 use Rattle.model.specs.Problem.{Problem, Fair}
 use Rattle.model.specs.Domain.{permitted}
 use Rattle.model.specs.Schedule.{cost}
@@ -14,7 +15,8 @@ use Rattle.instance.specs.declared.Euro.{Euro}
 use Rattle.blame.specs.Closed.{startIn, Settled}
 use Rattle.blame.specs.Placed.{placed, paid, Standing}
 use Rattle.blame.proofs.PlacedLaws.{leaf-sound, leaf-cost, leaf-first}
-use Rattle.relaxation.specs.Relaxed.{priceIn}
+use Rattle.dual.specs.declared.Node.{Node}
+use Rattle.dual.specs.Blame.{nextNode}
 use Rattle.bound.specs.Rows.{Rows}
 use Rattle.bound.specs.Tests.{Blames, Stands}
 use Rattle.state.specs.declared.State.{State}
@@ -22,18 +24,19 @@ use Rattle.state.specs.declared.Step.{Step}
 use Rattle.state.specs.State.{triedOnce, stoppedAt, deadAt, improvedBy}
 use Rattle.search.specs.Walk.{Leads, Open, Untried, Leaf, Done, tryRoom, placeRoom}
 use Rattle.search.proofs.PlaceLaws.{tree-some, room-step}
-use Rattle.search.proofs.StateLaws.{later-next, later-tried, later-stopped, later-improved}
+use Rattle.search.proofs.StateLaws.{later-same, later-next, later-tried, later-stopped, later-improved}
 
-module _ (p : Problem) (budget : ℕ) (w us costs rows ys xs : List ℕ) (j sum : ℕ) (st : State) (d : Untried p w us costs rows ys xs j sum st) where
+module _ (p : Problem) (w us rows ys : List ℕ) (node : Node) (st : State) (d : Untried p w us rows ys node st) where
   -- the budget is spent: this place is the mark
-  pub done-stopped : (k : ℕ) → k ≡ j + 1 → budget ≤ st .tries → Done p budget w w xs (j + 1) (tryRoom p j) st (stoppedAt st xs k)
+  pub done-stopped : (k : ℕ) → k ≡ (node .unit) + 1 → st .budget ≤ st .tries → Done p w w (node .starts) ((node .unit) + 1) (tryRoom p (node .unit)) st (stoppedAt st (node .starts) k)
   done-stopped k e h = rw e (record {
-    later = later-stopped p w xs (j + 1) st;
+    later = later-stopped p w (node .starts) ((node .unit) + 1) st;
+    budget = refl;
     counted = omega arith;
     ends = record {
       some = omega arith;
       within = omega (arith, d .unit);
-      permits = below-more (λ i. permitted p i (startIn xs i) ≡ true) j (d .stands .standing .permits) (d .permits);
+      permits = below-more (λ i. permitted p i (startIn (node .starts) i) ≡ true) (node .unit) (d .stands .standing .permits) (d .permits);
       late = omega (arith, d .counted);
       settled = d .settled;
       past = d .past;
@@ -41,22 +44,23 @@ module _ (p : Problem) (budget : ℕ) (w us costs rows ys xs : List ℕ) (j sum 
   })
 
   -- a try counts one of the places at and below its start
-  tried-counted : st .tries + 1 ≤ st .tries + tryRoom p j
-  tried-counted = omega (arith, tree-some p (p .units - suc j))
+  tried-counted : st .tries + 1 ≤ st .tries + tryRoom p (node .unit)
+  tried-counted = omega (arith, tree-some p (p .units - suc (node .unit)))
 
   -- the start fails
-  pub done-fails : (b : ℕ) → Blames p (startIn xs) (j + 1) (st .limit .0) b → Done p budget w w xs (j + 1) (tryRoom p j) st (deadAt (triedOnce st) b)
+  pub done-fails : (b : ℕ) → Blames p (startIn (node .starts)) ((node .unit) + 1) (st .limit .0) b → Done p w w (node .starts) ((node .unit) + 1) (tryRoom p (node .unit)) st (deadAt (triedOnce st) b)
   done-fails b f = record {
     later = later-tried p w st;
+    budget = refl;
     counted = tried-counted;
     ends = record { closed = f .closed; within = f .within; past = λ e. inl (d .past e) };
   }
 
   -- it holds, and there is a next unit
-  pub opened : (next zs : List ℕ) (more : ℕ) → j + 1 < p .units → Stands p (priceIn us) costs (startIn xs) (j + 1) zs more
-      → Rows p (placed p (startIn xs) (j + 1)) next → Open p w us costs next zs xs (j + 1) more (triedOnce st)
-  opened next zs more h stands tallied = record {
-    unit = h;
+  pub opened : (next zs : List ℕ) (more : Euro) → Stands p us (startIn (node .starts)) ((node .unit) + 1) zs (more .0)
+      → Rows p (placed p (startIn (node .starts)) ((node .unit) + 1)) next → Open p w us next zs (nextNode node more) (triedOnce st)
+  opened next zs more stands tallied = record {
+    unit = omega (arith, d .unit);
     long = d .long;
     stands = stands;
     tallied = tallied;
@@ -67,49 +71,51 @@ module _ (p : Problem) (budget : ℕ) (w us costs rows ys xs : List ℕ) (j sum 
     held = d .held;
   }
 
-  -- the last unit's start holds
-  module _ (fair : Fair p) (last : p .units ≤ j + 1) (standing : Standing p (startIn xs) (j + 1)) where
-    whole : j + 1 ≡ p .units
-    whole = omega (arith, d .unit)
-
-    standing-all : Standing p (startIn xs) (p .units)
-    standing-all = subst (λ (k : ℕ). Standing p (startIn xs) k) whole standing
-
-    -- a schedule below the limit leads under every ceiling that the limit is under
-    leads : (c : Euro) → c .0 ≡ paid p (placed p (startIn xs) (p .units)) → c .0 < st .limit .0 → (ceiling : ℕ) → st .limit .0 ≤ ceiling + 1
-        → Leads p ceiling xs (c .0)
-    leads c e less ceiling under =
-        let settled = subst (λ (k : ℕ). Settled p (startIn xs) k (st .limit .0)) whole (d .settled) in
-        record {
-          sound = leaf-sound p (startIn xs) fair standing-all;
-          costs = leaf-cost p (startIn xs) fair standing-all ∙ sym e;
-          allowed = omega arith;
-          first = λ q sound earlier.
-              subst (λ (n : ℕ). n < cost p q) (sym e)
-              (leaf-first p (startIn xs) fair standing-all (st .limit .0) settled (subst (λ (n : ℕ). n < st .limit .0) e less) q sound earlier);
-        }
-
-    -- the schedule costs the limit or more, or it is the best so far
-    pub done-leaf : (step : Step) → Leaf p xs (triedOnce st) step → Done p budget w w xs (j + 1) (tryRoom p j) st step
-    done-leaf step (inl h) =
-        subst (Done p budget w w xs (j + 1) (tryRoom p j) st) (sym (h .is))
-        (done-fails (h .b) (record { closed = h .blames .closed; within = λ i e. let g = h .blames .within i e in omega arith }))
-    done-leaf step (inr h) = subst (Done p budget w w xs (j + 1) (tryRoom p j) st) (sym (h .is)) (record {
-      later = later-next p w w w st (triedOnce st) (improvedBy (triedOnce st) xs (h .c)) (later-tried p w st)
-          (later-improved p w xs (h .c) (triedOnce st) (h .less) (leads (h .c) (h .costs) (h .less)));
-      counted = tried-counted;
-      ends = record {
-        closed = h .blames .closed;
-        within = λ i e. let g = h .blames .within i e in omega arith;
-        past = λ e. inr (λ i h. refl);
-      };
-    })
-
 -- the next unit was placed
-pub done-place : (p : Problem) (budget : ℕ) (w w′ xs : List ℕ) (j : ℕ) (st : State) (step : Step) → j + 1 < p .units
-    → Done p budget w w′ xs (j + 1) (placeRoom p (j + 1)) (triedOnce st) step → Done p budget w w′ xs (j + 1) (tryRoom p j) st step
-done-place p budget w w′ xs j st step h d = record {
+pub done-place : (p : Problem) (w w′ xs : List ℕ) (j : ℕ) (st : State) (step : Step) → Done p w w′ xs (j + 1) (placeRoom p (j + 1)) (triedOnce st) step
+    → Done p w w′ xs (j + 1) (tryRoom p j) st step
+done-place p w w′ xs j st step d = record {
   later = later-next p w w w′ st (triedOnce st) (step .state) (later-tried p w st) (d .later);
-  counted = omega (arith, d .counted, room-step p j h);
+  budget = d .budget;
+  counted = omega (arith, d .counted, room-step p j);
   ends = d .ends;
 }
+
+-- ---- every unit is placed
+
+module _ (p : Problem) (w us rows ys : List ℕ) (node : Node) (st : State) (o : Open p w us rows ys node st) (fair : Fair p)
+    (whole : node .unit ≡ p .units) where
+  standing-all : Standing p (startIn (node .starts)) (p .units)
+  standing-all = subst (λ (k : ℕ). Standing p (startIn (node .starts)) k) whole (o .stands .standing)
+
+  -- a schedule below the limit leads under every ceiling that the limit is under
+  leads : (c : Euro) → c .0 ≡ paid p (placed p (startIn (node .starts)) (p .units)) → c .0 < st .limit .0 → (ceiling : ℕ)
+      → st .limit .0 ≤ ceiling + 1 → Leads p ceiling (node .starts) (c .0)
+  leads c e less ceiling under =
+      let settled = subst (λ (k : ℕ). Settled p (startIn (node .starts)) k (st .limit .0)) whole (o .settled) in
+      record {
+        sound = leaf-sound p (startIn (node .starts)) fair standing-all;
+        costs = leaf-cost p (startIn (node .starts)) fair standing-all ∙ sym e;
+        allowed = omega arith;
+        first = λ q sound earlier.
+            subst (λ (n : ℕ). n < cost p q) (sym e)
+            (leaf-first p (startIn (node .starts)) fair standing-all (st .limit .0) settled (subst (λ (n : ℕ). n < st .limit .0) e less) q sound earlier);
+      }
+
+  below : (b : ℕ) → ((i : ℕ) → has b i ≡ true → i < p .units) → (i : ℕ) → has b i ≡ true → i < node .unit
+  below b h i e = let g = h i e in omega (arith, whole)
+
+  -- it costs the limit or more, or it is the best so far
+  pub done-leaf : (step : Step) → Leaf p (node .starts) st step → Done p w w (node .starts) (node .unit) (placeRoom p (node .unit)) st step
+  done-leaf step (inl h) = subst (Done p w w (node .starts) (node .unit) (placeRoom p (node .unit)) st) (sym (h .is)) (record {
+    later = later-same p w st;
+    budget = refl;
+    counted = omega arith;
+    ends = record { closed = h .blames .closed; within = below (h .b) (h .blames .within); past = λ e. inl (o .past e) };
+  })
+  done-leaf step (inr h) = subst (Done p w w (node .starts) (node .unit) (placeRoom p (node .unit)) st) (sym (h .is)) (record {
+    later = later-improved p w (node .starts) (h .c) st (h .less) (leads (h .c) (h .costs) (h .less));
+    budget = refl;
+    counted = omega arith;
+    ends = record { closed = h .blames .closed; within = below (h .b) (h .blames .within); past = λ e. inr (λ i h. refl) };
+  })

@@ -9,9 +9,9 @@ use native.Mathlib.Nat.{le-trans, suc-mul, mul-le-mul-right}
 use native.Mathlib.Decide.{ℕ-discrete, decLt}
 use native.Mathlib.Omega.{arith}
 use lib.ListN.{length, set, length-set}
-use lib.Dec.{ltb, leb, eqb}
-use borrow.Author.Tests.{ltb-true, leb-true, lt-ltb, le-leb, eq-eqb, ne-eqb}
-use Rattle.sums.specs.NumSet.{has}
+use lib.Dec.{ltb, eqb}
+use borrow.Author.Tests.{ltb-true, lt-ltb, eq-eqb, ne-eqb}
+use Rattle.sums.specs.NumSet.{has, without}
 use Rattle.sums.proofs.LogicLaws.{true-false, and-of, and-left, and-right, or-left, or-right}
 use Rattle.sums.proofs.NumSetLaws.{zero-has}
 use Rattle.model.specs.Problem.{Problem}
@@ -19,11 +19,11 @@ use Rattle.model.specs.Domain.{permitted, startCount}
 use Rattle.model.specs.Schedule.{Schedule, Sound, cost}
 use Rattle.model.specs.Order.{Same, Lower}
 use Rattle.overhaul.specs.Range.{StartRange}
-use Rattle.overhaul.proofs.StartLaws.{start-count}
+use Rattle.overhaul.proofs.StartLaws.{range-in, range-at, start-count}
 use Rattle.blame.specs.Closed.{startIn, Agree, Closed, Settled}
 use Rattle.blame.specs.Placed.{placed}
 use Rattle.blame.proofs.PlacedLaws.{placed-agree, standing-agree}
-use Rattle.relaxation.specs.Relaxed.{priceIn}
+use Rattle.dual.specs.declared.Node.{Node}
 use Rattle.dual.proofs.BoundsLaws.{bounds-agree}
 use Rattle.bound.specs.Rows.{Rows}
 use Rattle.bound.specs.Tests.{Stands}
@@ -31,8 +31,8 @@ use Rattle.state.specs.declared.State.{State}
 use Rattle.state.specs.declared.Step.{Step}
 use Rattle.state.specs.declared.Walked.the-variants.{Dead, Spent}
 use Rattle.state.specs.State.{deadAt}
-use Rattle.search.specs.Walk.{Later, UpTo, BeforeStart, Open, Untried, Over, Halted, Ends, Done, tryRoom, placeRoom}
-use Rattle.search.proofs.PlaceLaws.{put-here, put-other, put-below, passed-start}
+use Rattle.search.specs.Walk.{startAt, Later, UpTo, BeforeStart, Open, Untried, Over, Halted, Ends, Shares, Done, tryRoom, placeRoom}
+use Rattle.search.proofs.PlaceLaws.{put-here, put-other, put-below, room-starts, passed-start}
 use Rattle.search.proofs.StateLaws.{later-same, later-next, held-later}
 
 -- every sound schedule with the starts of xs for the units of b, and with a start of unit j below v, costs at least the limit
@@ -42,12 +42,18 @@ pub record Tried (p : Problem) (xs : List ℕ) (j v b limit : ℕ) : Type 0 wher
 -- the starts of unit j from the first on and below v have failed, by the starts of the units of `blame`
 pub record Trying (p : Problem) (w₀ w xs : List ℕ) (j : ℕ) (st₀ st : State) (blame first v : ℕ) : Type 0 where
   pub later : Later p w₀ st₀ w st
+  pub budget : st .budget ≡ st₀ .budget
   pub tried : Tried p xs j v blame (st .limit .0)
   pub under : (i : ℕ) → has blame i ≡ true → i < j
   pub counted : st .tries ≤ st₀ .tries + (v - first) * tryRoom p j
   pub from : first ≤ v
   pub reach : v - first ≤ startCount p j
   pub past : st .found ≡ true → BeforeStart (st .best) xs j v
+
+-- the units to blame, with those of one more start but the unit itself
+pub shared-of : (blame b j rest both : ℕ) → ((k : ℕ) → has rest k ≡ without (has b) j k) → ((k : ℕ) → has both k ≡ (has blame k || has rest k))
+    → Shares blame b j both
+shared-of blame b j rest both less union = record { sets = λ k. union k ∙ ap (λ (x : Bool). has blame k || x) (less k) }
 
 -- ---- the best, and the place of the next start
 
@@ -103,11 +109,12 @@ past-up best xs j v (inr b) = inr (b .0)
 -- ---- the next start
 
 -- no start was tried
-pub trying-none : (p : Problem) (w us costs rows ys xs : List ℕ) (j sum : ℕ) (st : State) (first last : ℕ) → StartRange p j first last
-    → Open p w us costs rows ys xs j sum st
-    → Trying p w w xs j st st 0 first first
-trying-none p w us costs rows ys xs j sum st first last range o = record {
+pub trying-none : (p : Problem) (w us rows ys : List ℕ) (node : Node) (st : State) (first last : ℕ) → StartRange p (node .unit) first last
+    → node .unit < p .units → Open p w us rows ys node st
+    → Trying p w w (node .starts) (node .unit) st st 0 first first
+trying-none p w us rows ys node st first last range inside o = record {
   later = later-same p w st;
+  budget = refl;
   tried = record { costs = λ s sound agree less. absurd (early s sound less) };
   under = λ i e. true-false (sym e ∙ zero-has i);
   counted = omega arith;
@@ -116,192 +123,191 @@ trying-none p w us costs rows ys xs j sum st first last range o = record {
   past = λ e. inl (o .past e);
 }
   where
-    early : (s : Schedule) → Sound p s → s .start j < first → ⊥
+    early : (s : Schedule) → Sound p s → s .start (node .unit) < first → ⊥
     early s sound less =
-        let e = range .exact (s .start j) in
-        let h = leb-true first (s .start j) (and-left (leb first (s .start j)) (leb (s .start j) last) (sym e
-        ∙ sound .schedule .permits j (o .unit))) in
-        omega arith
+        omega (arith, range-at p (node .unit) first last (s .start (node .unit)) range (sound .schedule .permits (node .unit) inside) .0)
 
-module _ (p : Problem) (w₀ w us costs rows ys xs : List ℕ) (j sum : ℕ) (st₀ st : State) (blame first last v : ℕ)
-    (range : StartRange p j first last) (ends : last ≤ p .weeks) (o : Open p w₀ us costs rows ys xs j sum st₀)
-    (t : Trying p w₀ w xs j st₀ st blame first v)
+module _ (p : Problem) (w₀ w us rows ys : List ℕ) (node : Node) (st₀ st : State) (blame first last v : ℕ)
+    (range : StartRange p (node .unit) first last) (ends : last ≤ p .weeks) (inside : node .unit < p .units) (o : Open p w₀ us rows ys node st₀)
+    (t : Trying p w₀ w (node .starts) (node .unit) st₀ st blame first v)
     (here : v ≤ last) where
-  long : j < length xs
-  long = omega (arith, o .unit, o .long)
+  long : (node .unit) < length (node .starts)
+  long = omega (arith, inside, o .long)
 
-  -- unit j has a permitted start
-  pub some-start : 0 < startCount p j
-  some-start = omega (arith, start-count p j first last range ends, t .from)
+  -- unit (node .unit) has a permitted start
+  pub some-start : 0 < startCount p (node .unit)
+  some-start = omega (arith, start-count p (node .unit) first last range ends, t .from)
 
-  permits-here : permitted p j v ≡ true
-  permits-here = range .exact v ∙ and-of (leb first v) (leb v last) (le-leb first v (t .from)) (le-leb v last here)
+  permits-here : permitted p (node .unit) v ≡ true
+  permits-here = range-in p (node .unit) first last v range (t .from) here
 
   -- all schedules before this start
-  settled-here : Settled p (startIn (set xs j v)) (j + 1) (st .limit .0)
-  settled-here = record { costs = λ s sound l. ⊎-elim (before s sound) (inside s sound) (lower-place xs xs j v long (s .start) l) }
+  settled-here : Settled p (startIn (set (node .starts) (node .unit) v)) ((node .unit) + 1) (st .limit .0)
+  settled-here = record { costs = λ s sound l. ⊎-elim (before s sound) (within s sound) (lower-place (node .starts) (node .starts) (node .unit) v long (s .start) l) }
     where
-      before : (s : Schedule) → Sound p s → Lower ltb j (s .start) (startIn xs) → st .limit .0 ≤ cost p s
+      before : (s : Schedule) → Sound p s → Lower ltb (node .unit) (s .start) (startIn (node .starts)) → st .limit .0 ≤ cost p s
       before s sound l = le-trans (t .later .falls) (o .settled .costs s sound l)
 
-      inside : (s : Schedule) → Sound p s → Same j (s .start) (startIn xs) × (s .start j < v) → st .limit .0 ≤ cost p s
-      inside s sound m = t .tried .costs s sound (λ i h e. m .0 i (t .under i e)) (m .1)
+      within : (s : Schedule) → Sound p s → Same (node .unit) (s .start) (startIn (node .starts)) × (s .start (node .unit) < v) → st .limit .0 ≤ cost p s
+      within s sound m = t .tried .costs s sound (λ i h e. m .0 i (t .under i e)) (m .1)
 
-  stands-here : Stands p (priceIn us) costs (startIn (set xs j v)) j ys sum
+  stands-here : Stands p us (startIn (set (node .starts) (node .unit) v)) (node .unit) ys (node .bound .0)
   stands-here =
-      let same : Same j (startIn xs) (startIn (set xs j v)) = λ k d. sym (put-below xs j v k d) in
+      let same : Same (node .unit) (startIn (node .starts)) (startIn (set (node .starts) (node .unit) v)) = λ k d. sym (put-below (node .starts) (node .unit) v k d) in
       record {
-        standing = standing-agree p (startIn xs) (startIn (set xs j v)) j same (o .stands .standing);
-        bounds = bounds-agree p (priceIn us) costs (startIn xs) (startIn (set xs j v)) ys j sum same (o .stands .bounds);
+        standing = standing-agree p (startIn (node .starts)) (startIn (set (node .starts) (node .unit) v)) (node .unit) same (o .stands .standing);
+        bounds = bounds-agree p us (startIn (node .starts)) (startIn (set (node .starts) (node .unit) v)) ys (node .unit) (node .bound .0) same (o .stands .bounds);
       }
 
-  tallied-here : Rows p (placed p (startIn (set xs j v)) j) rows
+  tallied-here : Rows p (placed p (startIn (set (node .starts) (node .unit) v)) (node .unit)) rows
   tallied-here = record {
     long = o .tallied .long;
     tallies = o .tallied .tallies;
-    sets = λ d l i. o .tallied .sets d l i ∙ placed-agree p (startIn xs) (startIn (set xs j v)) j (λ k m. sym (put-below xs j v k m)) d i;
+    sets = λ d l i. o .tallied .sets d l i ∙ placed-agree p (startIn (node .starts)) (startIn (set (node .starts) (node .unit) v)) (node .unit) (λ k m. sym (put-below (node .starts) (node .unit) v k m)) d i;
   }
 
   -- the next start is tried
-  pub untried : Untried p w us costs rows ys (set xs j v) j sum st
+  pub untried : Untried p w us rows ys (startAt node v) st
   untried = record {
-    unit = o .unit;
-    long = omega (arith, o .long, length-set xs j v);
-    permits = ap (permitted p j) (put-here xs j v long) ∙ permits-here;
+    unit = inside;
+    long = omega (arith, o .long, length-set (node .starts) (node .unit) v);
+    permits = ap (permitted p (node .unit)) (put-here (node .starts) (node .unit) v long) ∙ permits-here;
     stands = stands-here;
     tallied = tallied-here;
     settled = settled-here;
-    past = λ e. before-place (st .best) xs j v long (t .past e);
+    past = λ e. before-place (st .best) (node .starts) (node .unit) v long (t .past e);
     counted =
-        let e = passed-start p xs j first last v range (omega arith) long in
+        let e = passed-start p (node .starts) (node .unit) first last v range (omega arith) long in
         omega (arith, e, t .counted, o .counted);
     small = le-trans (t .later .falls) (o .small);
     held = held-later p w₀ w st₀ st (o .held) (t .later);
   }
 
   -- a start more is counted
-  counted-next : (v + 1 - first) * tryRoom p j ≡ (v - first) * tryRoom p j + tryRoom p j
+  counted-next : (v + 1 - first) * tryRoom p (node .unit) ≡ (v - first) * tryRoom p (node .unit) + tryRoom p (node .unit)
   counted-next =
       let e : v + 1 - first ≡ suc (v - first) = omega (arith, t .from) in
-      ap (λ (n : ℕ). n * tryRoom p j) e ∙ suc-mul (v - first) (tryRoom p j)
+      ap (λ (n : ℕ). n * tryRoom p (node .unit)) e ∙ suc-mul (v - first) (tryRoom p (node .unit))
 
-  reach-next : v + 1 - first ≤ startCount p j
-  reach-next = omega (arith, start-count p j first last range ends)
+  reach-next : v + 1 - first ≤ startCount p (node .unit)
+  reach-next = omega (arith, start-count p (node .unit) first last range ends)
 
   -- so far it stays within the places below the unit's starts
-  within-room : (n : ℕ) → n ≤ st .tries + tryRoom p j → n ≤ st₀ .tries + placeRoom p j
+  within-room : (n : ℕ) → n ≤ st .tries + tryRoom p (node .unit) → n ≤ st₀ .tries + placeRoom p (node .unit)
   within-room n h =
-      let m : (v + 1 - first) * tryRoom p j ≤ startCount p j * tryRoom p j = mul-le-mul-right (tryRoom p j) reach-next in
-      omega (arith, m, counted-next, t .counted)
+      let m : (v + 1 - first) * tryRoom p (node .unit) ≤ startCount p (node .unit) * tryRoom p (node .unit) = mul-le-mul-right (tryRoom p (node .unit)) reach-next in
+      omega (arith, m, counted-next, t .counted, room-starts p (node .unit) inside)
 
-  module _ (budget : ℕ) (w′ : List ℕ) (step : Step) (d : Done p budget w w′ (set xs j v) (j + 1) (tryRoom p j) st step) where
+  module _ (w′ : List ℕ) (step : Step) (d : Done p w w′ (set (node .starts) (node .unit) v) ((node .unit) + 1) (tryRoom p (node .unit)) st step) where
     later-here : Later p w₀ st₀ w′ (step .state)
     later-here = later-next p w₀ w w′ st₀ st (step .state) (t .later) (d .later)
 
     -- the budget is spent
-    pub done-spent : (m : ℕ) → step .walked ≡ Spent m → Done p budget w₀ w′ xs j (placeRoom p j) st₀ step
+    pub done-spent : (m : ℕ) → step .walked ≡ Spent m → Done p w₀ w′ (node .starts) (node .unit) (placeRoom p (node .unit)) st₀ step
     done-spent m e =
-        let h : Halted p budget (step .state) m = subst (Ends p budget (set xs j v) (j + 1) (step .state)) e (d .ends) in
+        let h : Halted p (st .budget) (step .state) m = subst (Ends p (st .budget) (set (node .starts) (node .unit) v) ((node .unit) + 1) (step .state)) e (d .ends) in
         record {
           later = later-here;
+          budget = d .budget ∙ t .budget;
           counted = within-room (step .state .tries) (d .counted);
-          ends = subst (Ends p budget xs j (step .state)) (sym e) h;
+          ends = subst (Ends p (st₀ .budget) (node .starts) (node .unit) (step .state)) (sym e)
+              (subst (λ (n : ℕ). Halted p n (step .state) m) (t .budget) h);
         }
 
     module _ (b : ℕ) (e : step .walked ≡ Dead b) where
-      over : Over p (set xs j v) (j + 1) (step .state) b
-      over = subst (Ends p budget (set xs j v) (j + 1) (step .state)) e (d .ends)
+      over : Over p (set (node .starts) (node .unit) v) ((node .unit) + 1) (step .state) b
+      over = subst (Ends p (st .budget) (set (node .starts) (node .unit) v) ((node .unit) + 1) (step .state)) e (d .ends)
 
-      -- unit j has no share in the blame: the walk jumps back
-      pub done-jump : has b j ≡ false → Done p budget w₀ w′ xs j (placeRoom p j) st₀ step
+      -- unit (node .unit) has no share in the blame: the walk jumps back
+      pub done-jump : has b (node .unit) ≡ false → Done p w₀ w′ (node .starts) (node .unit) (placeRoom p (node .unit)) st₀ step
       done-jump free = record {
         later = later-here;
+        budget = d .budget ∙ t .budget;
         counted = within-room (step .state .tries) (d .counted);
-        ends = subst (Ends p budget xs j (step .state)) (sym e) (record {
+        ends = subst (Ends p (st₀ .budget) (node .starts) (node .unit) (step .state)) (sym e) (record {
           closed = record {
-            costs = λ s sound agree. over .closed .costs s sound (λ i h f. agree i h f ∙ sym (put-other xs j v i (other i f)));
+            costs = λ s sound agree. over .closed .costs s sound (λ i h f. agree i h f ∙ sym (put-other (node .starts) (node .unit) v i (other i f)));
           };
           within = λ i f. below i f (over .within i f);
-          past = λ f. past-up (step .state .best) xs j (v + 1) (past-next (step .state .best) xs j v long (over .past f));
+          past = λ f. past-up (step .state .best) (node .starts) (node .unit) (v + 1) (past-next (step .state .best) (node .starts) (node .unit) v long (over .past f));
         });
       }
         where
-          other : (i : ℕ) → has b i ≡ true → i ≡ j → ⊥
+          other : (i : ℕ) → has b i ≡ true → i ≡ (node .unit) → ⊥
           other i f q = true-false (sym f ∙ (ap (has b) q ∙ free))
 
-          below : (i : ℕ) → has b i ≡ true → i < j + 1 → i < j
+          below : (i : ℕ) → has b i ≡ true → i < (node .unit) + 1 → i < (node .unit)
           below i f l = let ne = other i f in omega arith
 
-      -- unit j shares the blame: the others are kept
-      pub trying-more : (rest both : ℕ) → ((k : ℕ) → has rest k ≡ (has b k && not (eqb k j))) → ((k : ℕ) → has both k ≡ (has blame k || has rest k))
-          → Trying p w₀ w′ xs j st₀ (step .state) both first (v + 1)
-      trying-more rest both without union = record {
+      -- unit (node .unit) shares the blame: the others are kept
+      pub trying-more : (both : ℕ) → ((k : ℕ) → has both k ≡ (has blame k || (has b k && not (eqb k (node .unit)))))
+          → Trying p w₀ w′ (node .starts) (node .unit) st₀ (step .state) both first (v + 1)
+      trying-more both union = record {
         later = later-here;
-        tried = record { costs = λ s sound agree less. by s sound agree less (decLt (s .start j) v) };
+        budget = d .budget ∙ t .budget;
+        tried = record { costs = λ s sound agree less. by s sound agree less (decLt (s .start (node .unit)) v) };
         under = λ i f. under i (union i) f;
         counted = omega (arith, d .counted, t .counted, counted-next);
         from = omega (arith, t .from);
         reach = reach-next;
-        past = λ f. past-next (step .state .best) xs j v long (over .past f);
+        past = λ f. past-next (step .state .best) (node .starts) (node .unit) v long (over .past f);
       }
         where
           left : (i : ℕ) → has blame i ≡ true → has both i ≡ true
-          left i f = union i ∙ or-left (has blame i) (has rest i) f
+          left i f = union i ∙ or-left (has blame i) (has b i && not (eqb i (node .unit))) f
 
-          right : (i : ℕ) → has b i ≡ true → (i ≡ j → ⊥) → has both i ≡ true
+          right : (i : ℕ) → has b i ≡ true → (i ≡ (node .unit) → ⊥) → has both i ≡ true
           right i f ne =
-              union i ∙ or-right (has blame i) (has rest i) (without i ∙ and-of (has b i) (not (eqb i j)) f (ap not (ne-eqb i j ne)))
+              union i ∙ or-right (has blame i) (has b i && not (eqb i (node .unit))) (and-of (has b i) (not (eqb i (node .unit))) f (ap not (ne-eqb i (node .unit) ne)))
 
-          under : (i : ℕ) → has both i ≡ (has blame i || has rest i) → has both i ≡ true → i < j
+          under : (i : ℕ) → has both i ≡ (has blame i || (has b i && not (eqb i (node .unit)))) → has both i ≡ true → i < (node .unit)
           under i q f = go (has blame i) refl (sym q ∙ f)
             where
-              go : (c : Bool) → has blame i ≡ c → (c || has rest i) ≡ true → i < j
+              go : (c : Bool) → has blame i ≡ c → (c || (has b i && not (eqb i (node .unit)))) ≡ true → i < (node .unit)
               go true z g = t .under i z
               go false z g =
-                  let m = over .within i (and-left (has b i) (not (eqb i j)) (sym (without i) ∙ g)) in
-                  let n = and-right (has b i) (not (eqb i j)) (sym (without i) ∙ g) in
-                  let ne : i ≡ j → ⊥ = λ y. true-false (sym n ∙ ap not (eq-eqb i j y)) in
+                  let m = over .within i (and-left (has b i) (not (eqb i (node .unit))) g) in
+                  let n = and-right (has b i) (not (eqb i (node .unit))) g in
+                  let ne : i ≡ (node .unit) → ⊥ = λ y. true-false (sym n ∙ ap not (eq-eqb i (node .unit) y)) in
                   omega arith
 
-          by : (s : Schedule) → Sound p s → Agree p (has both) (startIn xs) (s .start) → s .start j < v + 1 → Dec (s .start j < v)
+          by : (s : Schedule) → Sound p s → Agree p (has both) (startIn (node .starts)) (s .start) → s .start (node .unit) < v + 1 → Dec (s .start (node .unit) < v)
               → step .state .limit .0 ≤ cost p s
           by s sound agree less (yes l) = le-trans (d .later .falls) (t .tried .costs s sound (λ i h f. agree i h (left i f)) l)
-          by s sound agree less (no l) = over .closed .costs s sound (λ i h f. at i h f (ℕ-discrete i j))
+          by s sound agree less (no l) = over .closed .costs s sound (λ i h f. at i h f (ℕ-discrete i (node .unit)))
             where
-              at : (i : ℕ) → i < p .units → has b i ≡ true → Dec (i ≡ j) → s .start i ≡ startIn (set xs j v) i
+              at : (i : ℕ) → i < p .units → has b i ≡ true → Dec (i ≡ (node .unit)) → s .start i ≡ startIn (set (node .starts) (node .unit) v) i
               at i h f (yes q) =
-                  let y : s .start j ≡ v = omega arith in
-                  ap (s .start) q ∙ (y ∙ (sym (put-here xs j v long) ∙ ap (startIn (set xs j v)) (sym q)))
-              at i h f (no ne) = agree i h (right i f ne) ∙ sym (put-other xs j v i ne)
+                  let y : s .start (node .unit) ≡ v = omega arith in
+                  ap (s .start) q ∙ (y ∙ (sym (put-here (node .starts) (node .unit) v long) ∙ ap (startIn (set (node .starts) (node .unit) v)) (sym q)))
+              at i h f (no ne) = agree i h (right i f ne) ∙ sym (put-other (node .starts) (node .unit) v i ne)
 
 -- ---- all starts have failed
 
-module _ (p : Problem) (w₀ w us costs rows ys xs : List ℕ) (j sum : ℕ) (st₀ st : State) (blame first last v : ℕ)
-    (range : StartRange p j first last) (o : Open p w₀ us costs rows ys xs j sum st₀) (t : Trying p w₀ w xs j st₀ st blame first v)
+module _ (p : Problem) (w₀ w us rows ys : List ℕ) (node : Node) (st₀ st : State) (blame first last v : ℕ)
+    (range : StartRange p (node .unit) first last) (inside : node .unit < p .units) (o : Open p w₀ us rows ys node st₀) (t : Trying p w₀ w (node .starts) (node .unit) st₀ st blame first v)
     (ended : last < v) where
-  closed-all : Closed p (has blame) (startIn xs) (st .limit .0)
+  closed-all : Closed p (has blame) (startIn (node .starts)) (st .limit .0)
   closed-all = record { costs = λ s sound agree. t .tried .costs s sound agree (late s sound) }
     where
-      late : (s : Schedule) → Sound p s → s .start j < v
+      late : (s : Schedule) → Sound p s → s .start (node .unit) < v
       late s sound =
-          let e = range .exact (s .start j) in
-          let h = leb-true (s .start j) last (and-right (leb first (s .start j)) (leb (s .start j) last) (sym e
-          ∙ sound .schedule .permits j (o .unit))) in
-          omega arith
+          omega (arith, range-at p (node .unit) first last (s .start (node .unit)) range (sound .schedule .permits (node .unit) inside) .1)
 
   -- the dead end, before it is noted and after
-  pub done-all : (budget : ℕ) (w′ : List ℕ) (r : State)
-      → (Closed p (has blame) (startIn xs) (st .limit .0) → Later p w st w′ r) → r .limit ≡ st .limit → r .tries ≡ st .tries
-      → r .found ≡ st .found → r .best ≡ st .best
-      → Done p budget w₀ w′ xs j (placeRoom p j) st₀ (deadAt r blame)
-  done-all budget w′ r later el et ef eb = record {
+  pub done-all : (w′ : List ℕ) (r : State)
+      → (Closed p (has blame) (startIn (node .starts)) (st .limit .0) → Later p w st w′ r) → r .limit ≡ st .limit → r .tries ≡ st .tries
+      → r .found ≡ st .found → r .best ≡ st .best → r .budget ≡ st .budget
+      → Done p w₀ w′ (node .starts) (node .unit) (placeRoom p (node .unit)) st₀ (deadAt r blame)
+  done-all w′ r later el et ef eb ebudget = record {
     later = later-next p w₀ w w′ st₀ st r (t .later) (later closed-all);
+    budget = ebudget ∙ t .budget;
     counted =
-        let m : (v - first) * tryRoom p j ≤ startCount p j * tryRoom p j = mul-le-mul-right (tryRoom p j) (t .reach) in
-        omega (arith, m, t .counted, et);
+        let m : (v - first) * tryRoom p (node .unit) ≤ startCount p (node .unit) * tryRoom p (node .unit) = mul-le-mul-right (tryRoom p (node .unit)) (t .reach) in
+        omega (arith, m, t .counted, et, room-starts p (node .unit) inside);
     ends = record {
       closed = rw el closed-all;
       within = t .under;
-      past = λ f. rw eb (past-up (st .best) xs j v (t .past (sym ef ∙ f)));
+      past = λ f. rw eb (past-up (st .best) (node .starts) (node .unit) v (t .past (sym ef ∙ f)));
     };
   }

@@ -1,22 +1,28 @@
 -- What one ask is told, and what it leaves in the table (document 01, "A run of asks").
 -- Assumes nothing.
-use Prim.Native.Nat.{ℕ, _+_, _-_, _≤_}
+use Prim.Native.Nat.{ℕ, _+_, _-_, _≤_, _<_}
 use mathlib.Core.Path.{_≡_}
 use mathlib.Core.Bool.{Bool, true, false}
 use mathlib.Core.List.{List}
 use lib.ListN.{length}
 use Rattle.sums.specs.Range.{listTo}
+use Rattle.model.specs.declared.Layout.{Layout}
 use Rattle.model.specs.Problem.{Problem}
-use Rattle.model.specs.Nogood.{Nogood}
+use Rattle.model.specs.Words.{problemOf}
+use Rattle.model.specs.Nogood.{MOST_LIMIT, Nogood}
 use Rattle.model.specs.Answer.{Answer, optimal, infeasible, incumbent, unknown, Correct}
 use Rattle.model.specs.Asks.{concludes}
+use Rattle.instance.specs.Filed.{Filed}
 use Rattle.blame.specs.Closed.{startIn}
 use Rattle.nogood.specs.Stock.{Stock, Grown, Ends}
-use Rattle.bound.specs.Tests.{someStartless}
+use Rattle.bound.specs.Tests.{someStartless, Permits, RunsOf}
 use Rattle.state.specs.declared.State.{State}
+use Rattle.state.specs.declared.Step.{Step}
 use Rattle.state.specs.declared.Walked.{Walked}
 use Rattle.state.specs.declared.Walked.the-variants.{Dead, Spent}
 use Rattle.search.specs.declared.Reply.{Reply}
+use Rattle.state.specs.State.{Concluded}
+use Rattle.search.specs.Walk.{Held, Walking}
 
 -- what the limit, the best starts, the mark, the runs, and how the walk ended say: a plan, none, a best before the mark, or a mark alone
 abbrev pub answerFor : Problem → ℕ → (best mark runs : List ℕ) → Bool → Walked → Answer
@@ -34,6 +40,26 @@ answerIn p st runs w = answerFor p (st .limit .0) (st .best) (st .mark) runs (st
 abbrev pub answerOf : Problem → Reply → Answer
 answerOf p r = answerIn p (r .state) (r .runs) (r .walked)
 
+-- what a reply asks of how a search ended
+pub record ReplyDue (ws : List ℕ) (l : Layout) (step : Step) (w : List ℕ) : Type 0 where
+  pub filed : Filed ws l
+  pub permits : step .state .found ≡ true → Permits (problemOf ws) (startIn (step .state .best))
+  pub room : step .state .used < length w
+  pub small : step .state .limit .0 ≤ MOST_LIMIT
+
+-- the runs of the best schedule, and the walk's conclusion in the table
+pub record ReplyOf (p : Problem) (step : Step) (w w′ : List ℕ) (r : Reply) : Type 0 where
+  pub runs-are : step .state .found ≡ true → RunsOf p (startIn (step .state .best)) (r .runs)
+  pub concluded : Concluded w w′ (step .state) (r .state) (step .walked)
+  pub walked-is : r .walked ≡ step .walked
+
+-- what an ask asks: a ceiling, and a table whose first words hold true nogoods
+pub record AskDue (ws : List ℕ) (l : Layout) (us : List ℕ) (ceiling : ℕ) (w : List ℕ) (used : ℕ) (memo : List ℕ) : Type 0 where
+  pub walking : Walking ws l us memo
+  pub ceiled : ceiling < MOST_LIMIT
+  pub room : used < length w
+  pub held : Held (problemOf ws) w used
+
 -- an ask with this ceiling and budget, on a table w of true nogoods in so many words, has left the table w′ and this reply
 pub record Asked (p : Problem) (ceiling budget : ℕ) (w : List ℕ) (used : ℕ) (w′ : List ℕ) (r : Reply) : Type 0 where
   -- the answer is right for its own ceiling and budget, for all schedules
@@ -47,4 +73,4 @@ pub record Asked (p : Problem) (ceiling budget : ℕ) (w : List ℕ) (used : ℕ
   -- a unit without permitted starts settles the ask before a start is tried, and nobody is to blame
   pub untried : someStartless p ≡ true → (r .walked ≡ Dead 0) × (r .state .tries ≡ 0)
   -- the last bound fits a word
-  pub small : r .state .limit .0 ≤ 268435456
+  pub small : r .state .limit .0 ≤ MOST_LIMIT

@@ -3,30 +3,42 @@
 -- Assumes nothing.
 use Prim.Native.Nat.{ℕ, suc, _+_, _-_, _*_, _≤_, _<_}
 use mathlib.Core.Path.{_≡_}
-use mathlib.Core.Bool.{Bool, true, false}
+use mathlib.Core.Bool.{Bool, true, false, _||_}
 use mathlib.Core.List.{List}
 use mathlib.Core.Logic.{_⊎_}
-use lib.ListN.{length}
+use lib.ListN.{length, set}
 use lib.Dec.{ltb}
-use Rattle.sums.specs.NumSet.{has}
+use Rattle.sums.specs.NumSet.{has, without}
+use Rattle.model.specs.declared.Layout.{Layout}
 use Rattle.model.specs.Problem.{Problem}
 use Rattle.model.specs.Domain.{permitted, startCount}
 use Rattle.model.specs.Schedule.{Schedule, Sound, cost}
 use Rattle.model.specs.Order.{Same, Lower, Earlier}
 use Rattle.model.specs.Prefix.{treeSize, passed}
-use Rattle.model.specs.Nogood.{Nogood}
+use Rattle.model.specs.Nogood.{MOST_LIMIT, Nogood}
+use Rattle.model.specs.Words.{problemOf}
+use Rattle.instance.specs.Filed.{Filed}
 use Rattle.blame.specs.Closed.{startIn, Closed, Settled}
 use Rattle.blame.specs.Placed.{placed, paid, planOf}
 use Rattle.nogood.specs.Stock.{Stock, Grown, DeadEnds}
 use Rattle.bound.specs.Rows.{Rows}
-use Rattle.relaxation.specs.Relaxed.{priceIn}
-use Rattle.bound.specs.Tests.{Blames, Stands}
+use Rattle.tables.specs.Tables.{priceIn}
+use Rattle.relaxation.specs.Relaxed.{Recalls}
+use Rattle.dual.specs.declared.Node.{Node}
+use Rattle.dual.specs.Dual.{Dual}
+use Rattle.dual.specs.Blame.{nextNode, Bounded}
+use Rattle.bound.specs.declared.Trial.{Trial}
+use Rattle.bound.specs.declared.Trial.the-variants.{Holds, Fails}
+use Rattle.bound.specs.Tests.{Blames, Stands, Judged}
 use Rattle.state.specs.declared.State.{State}
 use Rattle.state.specs.declared.Walked.{Walked}
 use Rattle.state.specs.declared.Walked.the-variants.{Dead, Spent}
 use Rattle.state.specs.declared.Step.{Step}
-use Rattle.state.specs.State.{deadAt, improvedBy}
+use Rattle.state.specs.State.{triedOnce, deadAt, improvedBy}
 use Rattle.instance.specs.declared.Euro.{Euro}
+use Rattle.search.specs.declared.Visit.{Visit}
+use Rattle.search.specs.declared.Turn.{Turn}
+use Rattle.search.specs.declared.Tried.{Tried}
 
 -- ---- the best so far
 
@@ -78,45 +90,93 @@ BeforeStart best xs j v = Lower ltb j (startIn best) (startIn xs) ⊎ (Same j (s
 abbrev pub tryRoom : Problem → ℕ → ℕ
 tryRoom p j = treeSize p (p .units - suc j)
 
--- at and below all its starts
+-- below the place of the first j starts
 abbrev pub placeRoom : Problem → ℕ → ℕ
-placeRoom p j = startCount p j * treeSize p (p .units - suc j)
+placeRoom p j = treeSize p (p .units - j) - 1
 
 -- ---- before and after
 
--- before unit j is placed: the units below it stand, all schedules before this place are settled, and no more was tried than lies before it
-pub record Open (p : Problem) (w us costs rows ys xs : List ℕ) (j sum : ℕ) (st : State) : Type 0 where
-  pub unit : j < p .units
-  pub long : p .units ≤ length xs
-  pub stands : Stands p (priceIn us) costs (startIn xs) j ys sum
-  pub tallied : Rows p (placed p (startIn xs) j) rows
-  pub settled : Settled p (startIn xs) j (st .limit .0)
-  pub past : st .found ≡ true → Lower ltb j (startIn (st .best)) (startIn xs)
-  pub counted : st .tries ≤ passed p (startIn xs) j
-  pub small : st .limit .0 ≤ 268435456
+-- a node with start v for its unit
+abbrev pub startAt : Node → ℕ → Node
+startAt node v = record { starts = set (node .starts) (node .unit) v; unit = node .unit; bound = node .bound }
+
+-- a visit of a node with start v for its unit, in a state
+pub record IsStart (node : Node) (v : ℕ) (st : State) (at : Visit) : Type 0 where
+  pub is : at ≡ record { node = startAt node v; state = st }
+
+-- before the node's unit is placed: the units below it stand, all schedules before this place are settled, and no more was tried than lies before it
+pub record Open (p : Problem) (w us rows ys : List ℕ) (node : Node) (st : State) : Type 0 where
+  pub unit : node .unit ≤ p .units
+  pub long : p .units ≤ length (node .starts)
+  pub stands : Stands p us (startIn (node .starts)) (node .unit) ys (node .bound .0)
+  pub tallied : Rows p (placed p (startIn (node .starts)) (node .unit)) rows
+  pub settled : Settled p (startIn (node .starts)) (node .unit) (st .limit .0)
+  pub past : st .found ≡ true → Lower ltb (node .unit) (startIn (st .best)) (startIn (node .starts))
+  pub counted : st .tries ≤ passed p (startIn (node .starts)) (node .unit)
+  pub small : st .limit .0 ≤ MOST_LIMIT
   pub held : Held p w (st .used)
 
--- before the start of unit j in xs is tried
-pub record Untried (p : Problem) (w us costs rows ys xs : List ℕ) (j sum : ℕ) (st : State) : Type 0 where
-  pub unit : j < p .units
-  pub long : p .units ≤ length xs
-  pub permits : permitted p j (startIn xs j) ≡ true
-  pub stands : Stands p (priceIn us) costs (startIn xs) j ys sum
-  pub tallied : Rows p (placed p (startIn xs) j) rows
-  pub settled : Settled p (startIn xs) (j + 1) (st .limit .0)
-  pub past : st .found ≡ true → Lower ltb (j + 1) (startIn (st .best)) (startIn xs)
-  pub counted : st .tries < passed p (startIn xs) (j + 1)
-  pub small : st .limit .0 ≤ 268435456
+-- before the start of its unit is tried
+pub record Untried (p : Problem) (w us rows ys : List ℕ) (node : Node) (st : State) : Type 0 where
+  pub unit : node .unit < p .units
+  pub long : p .units ≤ length (node .starts)
+  pub permits : permitted p (node .unit) (startIn (node .starts) (node .unit)) ≡ true
+  pub stands : Stands p us (startIn (node .starts)) (node .unit) ys (node .bound .0)
+  pub tallied : Rows p (placed p (startIn (node .starts)) (node .unit)) rows
+  pub settled : Settled p (startIn (node .starts)) (node .unit + 1) (st .limit .0)
+  pub past : st .found ≡ true → Lower ltb (node .unit + 1) (startIn (st .best)) (startIn (node .starts))
+  pub counted : st .tries < passed p (startIn (node .starts)) (node .unit + 1)
+  pub small : st .limit .0 ≤ MOST_LIMIT
   pub held : Held p w (st .used)
 
--- what the tests of that start ask
-pub record Ready (p : Problem) (w us costs rows ys xs : List ℕ) (j sum limit used : ℕ) : Type 0 where
-  pub unit : j < p .units
-  pub permits : permitted p j (startIn xs j) ≡ true
-  pub stands : Stands p (priceIn us) costs (startIn xs) j ys sum
-  pub tallied : Rows p (placed p (startIn xs) j) rows
-  pub small : limit ≤ 268435456
-  pub held : Held p w used
+-- what every function of the walk has: a file, the table with all its parts, and a memory that recalls at its prices
+pub record Walking (ws : List ℕ) (l : Layout) (us memo : List ℕ) : Type 0 where
+  pub filed : Filed ws l
+  pub dual : Dual (problemOf ws) us
+  pub recalls : Recalls (problemOf ws) (priceIn us) memo
+
+-- what placing a unit asks
+pub record PlaceNeeds (ws : List ℕ) (l : Layout) (us rows ys : List ℕ) (at : Visit) (w memo : List ℕ) : Type 0 where
+  pub walking : Walking ws l us memo
+  pub open-at : Open (problemOf ws) w us rows ys (at .node) (at .state)
+
+-- what trying a start asks
+pub record TryNeeds (ws : List ℕ) (l : Layout) (us rows ys : List ℕ) (at : Visit) (w memo : List ℕ) : Type 0 where
+  pub walking : Walking ws l us memo
+  pub untried : Untried (problemOf ws) w us rows ys (at .node) (at .state)
+
+-- the same as one fact each: a search for a proof enters every record it meets, and leaves these alone
+unfoldable pub PlaceDue : (ws : List ℕ) → Layout → (us rows ys : List ℕ) → Visit → (w memo : List ℕ) → Type 0
+PlaceDue ws l us rows ys at w memo = PlaceNeeds ws l us rows ys at w memo
+
+unfoldable pub TryDue : (ws : List ℕ) → Layout → (us rows ys : List ℕ) → Visit → (w memo : List ℕ) → Type 0
+TryDue ws l us rows ys at w memo = TryNeeds ws l us rows ys at w memo
+
+-- a start that was to be tried was judged; what it asked holds still
+pub record Judging (ws : List ℕ) (l : Layout) (us rows ys : List ℕ) (at : Visit) (w memo zs memo₁ : List ℕ) (v : Trial) : Type 0 where
+  pub due : TryNeeds ws l us rows ys at w memo
+  pub said : Judged (problemOf ws) us (at .node) (at .state .limit .0) zs v
+  pub recalls : Recalls (problemOf ws) (priceIn us) memo₁
+
+unfoldable pub TryJudged : (ws : List ℕ) → Layout → (us rows ys : List ℕ) → Visit → (w memo zs memo₁ : List ℕ) → Trial → Type 0
+TryJudged ws l us rows ys at w memo zs memo₁ v = Judging ws l us rows ys at w memo zs memo₁ v
+
+-- where the walk goes on: the try is counted, and where the start holds one unit more is placed
+abbrev pub nextVisit : Visit → Trial → Visit
+nextVisit at (Holds r) = record { node = nextNode (at .node) r; state = triedOnce (at .state) }
+nextVisit at (Fails b) = record { node = at .node; state = triedOnce (at .state) }
+
+pub record Deeper (at : Visit) (v : Trial) (r : Tried) : Type 0 where
+  pub trial-is : r .trial ≡ v
+  pub goes-to : r .at ≡ nextVisit at v
+
+-- a start was judged, and the walk goes on
+pub record Taken (ws : List ℕ) (l : Layout) (us rows ys : List ℕ) (at : Visit) (w memo zs memo₁ : List ℕ) (r : Tried) : Type 0 where
+  pub judging : Judging ws l us rows ys at w memo zs memo₁ (r .trial)
+  pub goes-to : r .at ≡ nextVisit at (r .trial)
+
+unfoldable pub TryTaken : (ws : List ℕ) → Layout → (us rows ys : List ℕ) → Visit → (w memo zs memo₁ : List ℕ) → Tried → Type 0
+TryTaken ws l us rows ys at w memo zs memo₁ r = Taken ws l us rows ys at w memo zs memo₁ r
 
 -- the place of the first k starts is dead, by the starts of the units of b
 pub record Over (p : Problem) (xs : List ℕ) (k : ℕ) (st : State) (b : ℕ) : Type 0 where
@@ -138,13 +198,60 @@ abbrev pub Ends : Problem → ℕ → List ℕ → ℕ → State → Walked → 
 Ends p budget xs k st (Dead b) = Over p xs k st b
 Ends p budget xs k st (Spent m) = Halted p budget st m
 
+-- the units to blame so far, and those of b but unit j
+pub record Shares (blame b j both : ℕ) : Type 0 where
+  pub sets : (k : ℕ) → has both k ≡ (has blame k || without (has b) j k)
+
+-- a unit's starts are left: the budget is spent, or unit j has no share in the dead end
+abbrev pub Leaves : ℕ → Walked → Type 0
+Leaves j (Dead b) = has b j ≡ false
+Leaves j (Spent m) = Unit {0}
+
+-- the next start is tried: a dead end, whose units but unit j are to blame too
+abbrev pub GoesOn : (blame j both : ℕ) → Walked → Type 0
+GoesOn blame j both (Dead b) = Shares blame b j both
+GoesOn blame j both (Spent m) = ⊥
+
+-- one or the other
+pub record TurnOf (step : Step) (blame j : ℕ) (turn : Turn) : Type 0 where
+  pub leaves : turn .left ≡ true → Leaves j (step .walked)
+  pub goes-on : turn .left ≡ false → GoesOn blame j (turn .blame) (step .walked)
+
 -- after at most `room` tries
-pub record Done (p : Problem) (budget : ℕ) (w w′ xs : List ℕ) (k room : ℕ) (st : State) (step : Step) : Type 0 where
+pub record Done (p : Problem) (w w′ xs : List ℕ) (k room : ℕ) (st : State) (step : Step) : Type 0 where
   pub later : Later p w st w′ (step .state)
+  pub budget : step .state .budget ≡ st .budget
   pub counted : step .state .tries ≤ st .tries + room
-  pub ends : Ends p budget xs k (step .state) (step .walked)
+  pub ends : Ends p (st .budget) xs k (step .state) (step .walked)
+
+-- the node's unit was placed, as one fact
+unfoldable pub PlaceDone : Problem → (w w′ : List ℕ) → Node → State → Step → Type 0
+PlaceDone p w w′ node st step = Done p w w′ (node .starts) (node .unit) (placeRoom p (node .unit)) st step
+
+-- its start was tried
+unfoldable pub TryDone : Problem → (w w′ : List ℕ) → Visit → Step → Type 0
+TryDone p w w′ at step = Done p w w′ (at .node .starts) (at .node .unit + 1) (tryRoom p (at .node .unit)) (at .state) step
 
 -- ---- all units placed
+
+-- all units stand, with the rows of all
+pub record LeafNeeds (ws : List ℕ) (l : Layout) (us rows ys : List ℕ) (at : Visit) (memo : List ℕ) : Type 0 where
+  pub walking : Walking ws l us memo
+  pub whole : at .node .unit ≡ l .units
+  pub stands : Stands (problemOf ws) us (startIn (at .node .starts)) (at .node .unit) ys (at .node .bound .0)
+  pub tallied : Rows (problemOf ws) (placed (problemOf ws) (startIn (at .node .starts)) (at .node .unit)) rows
+  pub small : at .state .limit .0 ≤ MOST_LIMIT
+
+unfoldable pub LeafDue : (ws : List ℕ) → Layout → (us rows ys : List ℕ) → Visit → (memo : List ℕ) → Type 0
+LeafDue ws l us rows ys at memo = LeafNeeds ws l us rows ys at memo
+
+-- it costs less than the limit
+pub record BetterDue (ws : List ℕ) (l : Layout) (us ys : List ℕ) (at : Visit) (c : ℕ) : Type 0 where
+  pub bounded : Bounded ws l us (at .node) ys
+  pub whole : at .node .unit ≡ l .units
+  pub small : at .state .limit .0 ≤ MOST_LIMIT
+  pub costs : c ≡ paid (problemOf ws) (placed (problemOf ws) (startIn (at .node .starts)) (l .units))
+  pub less : c < at .state .limit .0
 
 -- the schedule of these starts costs the limit or more, and the units of b are to blame
 pub record Dearer (p : Problem) (xs : List ℕ) (st : State) (step : Step) : Type 0 where
@@ -175,7 +282,7 @@ pub record AllSettled (p : Problem) (limit : ℕ) : Type 0 where
 pub record Fresh (p : Problem) (w : List ℕ) (st : State) : Type 0 where
   pub nothing : st .found ≡ false
   pub tries : st .tries ≡ 0
-  pub small : st .limit .0 ≤ 268435456
+  pub small : st .limit .0 ≤ MOST_LIMIT
   pub held : Held p w (st .used)
 
 -- no sound schedule at all is below the limit; or the walk stopped at its mark
@@ -184,9 +291,21 @@ Closes p budget st (Dead b) = AllSettled p (st .limit .0)
 Closes p budget st (Spent m) = Halted p budget st m
 
 -- a walk that has ended
-pub record Finished (p : Problem) (budget : ℕ) (w w′ : List ℕ) (st : State) (step : Step) : Type 0 where
+pub record Finished (p : Problem) (w w′ : List ℕ) (st : State) (step : Step) : Type 0 where
   pub later : Later p w st w′ (step .state)
-  pub closes : Closes p budget (step .state) (step .walked)
+  pub closes : Closes p (st .budget) (step .state) (step .walked)
+
+-- the visit of the root: no unit is placed, at this bound
+pub record AtRoot (bound : ℕ) (st : State) (at : Visit) : Type 0 where
+  pub long : length (at .node .starts) ≡ 16
+  pub none : at .node .unit ≡ 0
+  pub bound-is : at .node .bound .0 ≡ bound
+  pub same : at .state ≡ st
+
+-- what a walk asks
+pub record WalkDue (ws : List ℕ) (l : Layout) (us : List ℕ) (st : State) (w memo : List ℕ) : Type 0 where
+  pub walking : Walking ws l us memo
+  pub fresh : Fresh (problemOf ws) w st
 
 -- a walk ended unspent
 abbrev pub Unspent : Walked → Type 0

@@ -11,7 +11,7 @@ use lib.Bits.{bitAnd, bitOr, bitXor, differ, and-shr, and-step, or-shr, or-step,
 use lib.Dec.{eqb, ltb, lit<}
 use lib.Pow.{shl-exact, pow-pos, pow-add, pow-lt, pow-mono, ones-lt, ones-split, high}
 use borrow.Author.Tests.{eq-eqb, ne-eqb, lt-ltb, le-ltb}
-use Rattle.sums.specs.NumSet.{has}
+use Rattle.sums.specs.NumSet.{has, with, without}
 
 -- ---- the bits of `a | b`, `a & b` and `a ^ b`
 
@@ -100,7 +100,7 @@ pub shl-some : (i : ℕ) → i < 32 → 1 ≤ 1 * 2 ^ i % 4294967296
 shl-some i h = rw (shl-one i h) (pow-pos i)
 
 -- a set with unit i added, as the code makes it
-pub with-has : (set i : ℕ) → i < 32 → (k : ℕ) → has (bitOr set (1 * 2 ^ i % 4294967296)) k ≡ (has set k || eqb k i)
+pub with-has : (set i : ℕ) → i < 32 → (k : ℕ) → has (bitOr set (1 * 2 ^ i % 4294967296)) k ≡ with (has set) i k
 with-has set i h k = ap (λ (x : ℕ). has (bitOr set x) k) (shl-one i h) ∙ or-has set (2 ^ i) k ∙ ap (λ (b : Bool). has set k || b) (pow-has i k)
 
 -- added, then flipped
@@ -113,7 +113,7 @@ cleared false false = refl
 
 -- a set without unit i, as the code makes it
 pub without-has : (set i : ℕ) → i < 32 → (k : ℕ)
-    → has (bitXor (bitOr set (1 * 2 ^ i % 4294967296)) (1 * 2 ^ i % 4294967296)) k ≡ (has set k && not (eqb k i))
+    → has (bitXor (bitOr set (1 * 2 ^ i % 4294967296)) (1 * 2 ^ i % 4294967296)) k ≡ without (has set) i k
 without-has set i h k =
     ap (λ (x : ℕ). has (bitXor (bitOr set x) x) k) (shl-one i h) ∙ xor-has (bitOr set (2 ^ i)) (2 ^ i) k
     ∙ ap₂ xor (or-has set (2 ^ i) k ∙ ap (λ (b : Bool). has set k || b) (pow-has i k)) (pow-has i k) ∙ cleared (has set k) (eqb k i)

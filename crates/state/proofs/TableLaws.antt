@@ -19,12 +19,6 @@ pub learnt-of : (w w′ : List ℕ) (st r : State) (xs ends : List ℕ) (k b use
 learnt-of w w′ st r xs ends k b used e u t =
     subst (λ (s : State). Learnt w w′ st s xs k b) (sym e) (record { state = refl; used = u; table = t })
 
--- nothing was noted
-pub learnt-none : (w w′ : List ℕ) (st : State) (xs : List ℕ) (k b used : ℕ) → used ≡ st .used
-    → used ≡ notedUsed (length w) (st .used) (st .limit .0) (nogoodFor (startIn xs) (has b) k (st .limit .0))
-    → w′ ≡ noted w (st .used) (st .limit .0) (nogoodFor (startIn xs) (has b) k (st .limit .0)) → Learnt w w′ st st xs k b
-learnt-none w w′ st xs k b used e u t = record { state = refl; used = sym e ∙ u; table = t }
-
 -- ---- the end of a walk
 
 -- the conflict without choices noted

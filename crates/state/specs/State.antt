@@ -19,12 +19,12 @@ use Rattle.state.specs.declared.Step.{Step}
 -- one try more
 abbrev pub triedOnce : State → State
 triedOnce st =
-    record { best = st .best; mark = st .mark; ends = st .ends; found = st .found; limit = st .limit; tries = st .tries + 1; used = st .used }
+    record { best = st .best; mark = st .mark; ends = st .ends; found = st .found; limit = st .limit; tries = st .tries + 1; budget = st .budget; used = st .used }
 
 -- the walk stops at the first k starts of xs
 abbrev pub stoppedAt : State → List ℕ → ℕ → Step
 stoppedAt st xs k = record {
-  state = record { best = st .best; mark = xs; ends = st .ends; found = st .found; limit = st .limit; tries = st .tries; used = st .used };
+  state = record { best = st .best; mark = xs; ends = st .ends; found = st .found; limit = st .limit; tries = st .tries; budget = st .budget; used = st .used };
   walked = Spent k;
 }
 
@@ -35,21 +35,25 @@ deadAt st b = record { state = st; walked = Dead b }
 -- xs, at this cost, is the best so far
 abbrev pub improvedBy : State → List ℕ → Euro → State
 improvedBy st xs c =
-    record { best = xs; mark = st .mark; ends = st .ends; found = true; limit = c; tries = st .tries; used = st .used }
+    record { best = xs; mark = st .mark; ends = st .ends; found = true; limit = c; tries = st .tries; budget = st .budget; used = st .used }
 
--- no schedule found and no try made, under this limit
-abbrev pub renewedAt : State → Euro → State
-renewedAt st c =
-    record { best = st .best; mark = st .mark; ends = st .ends; found = false; limit = c; tries = 0; used = st .used }
+-- no schedule found and no try made, under this limit and with this budget
+abbrev pub renewedAt : State → Euro → ℕ → State
+renewedAt st c budget =
+    record { best = st .best; mark = st .mark; ends = st .ends; found = false; limit = c; tries = 0; budget = budget; used = st .used }
 
 -- another number of words is used, and conflicts end at other places
 abbrev pub withTable : State → List ℕ → ℕ → State
 withTable st ends used =
-    record { best = st .best; mark = st .mark; ends = ends; found = st .found; limit = st .limit; tries = st .tries; used = used }
+    record { best = st .best; mark = st .mark; ends = ends; found = st .found; limit = st .limit; tries = st .tries; budget = st .budget; used = used }
 
--- the places where conflicts end, with one more that ends at unit i, where a word of 16 bits can hold it
+-- 2 ^ 16: a word of 16 bits holds the places below it
+abbrev pub PLACES : ℕ
+PLACES = 65536
+
+-- the places where conflicts end, with one more that ends at unit i, where it can be held
 unfoldable pub indexedAt : List ℕ → (i end : ℕ) → List ℕ
-indexedAt ends i end = if (ltb end 65536) (set ends i end) ends
+indexedAt ends i end = if (ltb end PLACES) (set ends i end) ends
 
 -- the table w has become w′, and the state r, where the dead end of the units of b below k was noted, or not
 pub record Learnt (w w′ : List ℕ) (st r : State) (xs : List ℕ) (k b : ℕ) : Type 0 where
@@ -66,9 +70,10 @@ abbrev pub Concluded : (w w′ : List ℕ) (st r : State) → Walked → Type 0
 Concluded w w′ st r (Dead b) = EndNoted w w′ st r
 Concluded w w′ st r (Spent m) = (r ≡ st) × (w′ ≡ w)
 
--- a walk that has not begun, under a ceiling
-pub record Begun (ceiling words : ℕ) (st : State) : Type 0 where
+-- a walk that has not begun, under a ceiling and with a budget
+pub record Begun (ceiling budget words : ℕ) (st : State) : Type 0 where
   pub nothing : st .found ≡ false
   pub limit : st .limit .0 ≡ ceiling + 1
   pub tries : st .tries ≡ 0
+  pub budget-is : st .budget ≡ budget
   pub used : st .used ≡ words

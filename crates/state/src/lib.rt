@@ -3,13 +3,14 @@
 use instance::Euro;
 use nogood::Hit;
 ghost use mathlib.Core.Path.{_≡_};
-ghost use Prim.Native.Nat.{_+_, _<_, _≤_, min};
+ghost use Prim.Native.Nat.{_+_, _<_, _≤_};
 ghost use lib.ListN.{length};
+ghost use Rattle.model.specs.Nogood.{MOST_LIMIT};
 ghost use Rattle.nogood.specs.Recall.{Recalled};
 ghost use Rattle.state.specs.State.{triedOnce, stoppedAt, improvedBy, deadAt, renewedAt, withTable, indexedAt, Learnt, EndNoted, Concluded, Begun};
 
 // The walk's state: the starts of the best schedule so far, the mark of a walk that stopped, for each unit where in the table the last conflict that
-// ends at it ends, the limit that a schedule has to stay below, the words of the table in use, the tries made, and whether there is a best. The
+// ends at it ends, the limit that a schedule has to stay below, the words of the table in use, the tries made and the most that may be made, and whether there is a best. The
 // fields stand in the order of their sizes: a bool before a wider field leaves 7 bytes between them, and every try copies those too, in two pieces.
 pub struct State {
     pub best: [u8; 16],
@@ -18,6 +19,7 @@ pub struct State {
     pub limit: Euro,
     pub used: usize,
     pub tries: u32,
+    pub budget: u32,
     pub found: bool,
 }
 
@@ -78,13 +80,14 @@ fn with_table(st: State, ends: [u16; 16], used: usize) -> State
     s
 }
 
-// A walk that has not begun, under another limit, with the table as it stands.
-pub fn renewed(st: State, limit: Euro) -> State
-    ensures { λ r. ⌜ r ≡ renewedAt st limit ⌝ }
+// A walk that has not begun, under another limit and with another budget, with the table as it stands.
+pub fn renewed(st: State, limit: Euro, budget: u32) -> State
+    ensures { λ r. ⌜ r ≡ renewedAt st limit budget ⌝ }
 {
     let mut s = st;
     s.limit = limit;
     s.tries = 0;
+    s.budget = budget;
     s.found = false;
     s
 }
@@ -104,15 +107,8 @@ pub fn dead(st: State, b: u32) -> Step
 // In how many words of the table a try looks for conflicts.
 const WINDOW: usize = 64;
 
-// The smaller of two places.
-fn smaller(a: usize, b: usize) -> usize
-    ensures { λ r. ⌜ r ≡ min a b ⌝ }
-{
-    if a < b {
-        return a;
-    }
-    b
-}
+// 2^16: a word of 16 bits holds the places below it.
+const PLACES: usize = 65536;
 
 // The last unit of a set, 0 where it has none.
 fn last_unit(b: u32) -> usize
@@ -133,7 +129,7 @@ fn indexed(ends: [u16; 16], i: usize, end: usize) -> [u16; 16]
     requires { ⌜ i < 16 ⌝ }
     ensures { λ r. ⌜ r ≡ indexedAt ends i end ⌝ }
 {
-    if 65536 <= end {
+    if PLACES <= end {
         return ends;
     }
     let mut e = ends;
@@ -145,10 +141,10 @@ fn indexed(ends: [u16; 16], i: usize, end: usize) -> [u16; 16]
 fn indexed_word(ends: [u16; 16], word: u32, end: usize) -> [u16; 16]
     ensures { λ r. ⌜ length r ≡ 16 ⌝ }
 {
-    if instance::kind_of(word) != 14 {
+    if words::kind_of(word) != 14 {
         return ends;
     }
-    let unit = instance::value_of(word) / 64;
+    let unit = words::value_of(word) / 64;
     if unit == 0 {
         return ends;
     }
@@ -173,17 +169,26 @@ fn index(table: &[u32], used: usize) -> [u16; 16]
 
 // A conflict that begins in the words before the place where the last one ends that ends at unit j, of which the starts have all choices, and whose
 // bound is at or above the walk's own.
-pub fn recalled(table: &[u32], ends: [u16; 16], limit: Euro, starts: [u8; 16], j: usize) -> Hit
+pub fn recalled(table: &[u32], st: State, starts: [u8; 16], j: usize) -> Hit
     requires { ⌜ j < 16 ⌝ }
-    ensures { λ r. ⌜ Recalled (now (table .entry)) starts (j + 1) (limit .0) r ⌝ }
+    ensures { λ r. ⌜ Recalled (now (table .entry)) starts (j + 1) (st .limit .0) r ⌝ }
 {
-    let to = smaller(ends[j] as usize, table.len());
-    nogood::recall(table, to - smaller(to, WINDOW), to, starts, j + 1, limit.0)
+    let ends = st.ends;
+    let limit = st.limit;
+    let to = words::min(ends[j] as usize, table.len());
+    nogood::recall(
+        table,
+        to - words::min(to, WINDOW),
+        to,
+        starts,
+        j + 1,
+        limit.0,
+    )
 }
 
 // Notes that the starts of the units of b, all below k, are a dead end below the state's limit, where there is space.
 pub fn learnt(table: &mut [u32], st: State, starts: [u8; 16], k: usize, b: u32) -> State
-    requires { ⌜ (st .used ≤ length (now table)) × (k ≤ 16) × (st .limit .0 ≤ 268435456) ⌝ }
+    requires { ⌜ (st .used ≤ length (now table)) × (k ≤ 16) × (st .limit .0 ≤ MOST_LIMIT) ⌝ }
     ensures { λ r. ⌜ Learnt (now (table .entry)) (now (table .exit)) st r starts k b ⌝ }
 {
     let limit = st.limit;
@@ -199,7 +204,7 @@ pub fn learnt(table: &mut [u32], st: State, starts: [u8; 16], k: usize, b: u32) 
 
 // Notes the conflict without choices under the state's last bound.
 fn end_noted(table: &mut [u32], st: State) -> State
-    requires { ⌜ (st .used < length (now table)) × (st .limit .0 ≤ 268435456) ⌝ }
+    requires { ⌜ (st .used < length (now table)) × (st .limit .0 ≤ MOST_LIMIT) ⌝ }
     ensures { λ r. ⌜ EndNoted (now (table .entry)) (now (table .exit)) st r ⌝ }
 {
     let limit = st.limit;
@@ -211,7 +216,7 @@ fn end_noted(table: &mut [u32], st: State) -> State
 
 // The same where a walk has ended unspent.
 pub fn concluded(table: &mut [u32], st: State, w: Walked) -> State
-    requires { ⌜ (st .used < length (now table)) × (st .limit .0 ≤ 268435456) ⌝ }
+    requires { ⌜ (st .used < length (now table)) × (st .limit .0 ≤ MOST_LIMIT) ⌝ }
     ensures { λ r. ⌜ Concluded (now (table .entry)) (now (table .exit)) st r w ⌝ }
 {
     match w {
@@ -223,9 +228,9 @@ pub fn concluded(table: &mut [u32], st: State, w: Walked) -> State
 // ---- the beginning
 
 // A walk that has not begun.
-pub fn fresh(ceiling: u32, table: &[u32], used: usize) -> State
-    requires { ⌜ (ceiling < 268435456) × (used ≤ length (now table)) ⌝ }
-    ensures { λ r. ⌜ Begun ceiling used r ⌝ }
+pub fn fresh(ceiling: u32, budget: u32, table: &[u32], used: usize) -> State
+    requires { ⌜ (ceiling < MOST_LIMIT) × (used ≤ length (now table)) ⌝ }
+    ensures { λ r. ⌜ Begun ceiling budget used r ⌝ }
 {
     let ends = index(table, used);
     State {
@@ -235,6 +240,7 @@ pub fn fresh(ceiling: u32, table: &[u32], used: usize) -> State
         found: false,
         limit: Euro(ceiling as u64 + 1),
         tries: 0,
+        budget,
         used,
     }
 }

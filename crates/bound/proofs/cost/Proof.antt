@@ -1,26 +1,27 @@
 -- `bound::cost` meets its contract: the sum so far is that of the weeks so far.
 -- Assumes nothing.
 use Prim.Native.Nat.{_-_, _*_, _≤_}
-use mathlib.Core.Path.{_≡_}
+use mathlib.Core.Path.{_≡_, refl}
 use lib.ListN.{length}
 use Rattle.sums.specs.Sum.{sumTo}
 use Rattle.sums.proofs.LoopLaws.{sum-start}
 use Rattle.model.specs.Words.{problemOf}
-use Rattle.relaxation.specs.Relaxed.{priceIn, Recalls}
+use Rattle.memo.specs.Memo.{Right, Others}
+use Rattle.memo.proofs.EntryLaws.{others-same, others-trans}
 use Rattle.bound.proofs.LeafLaws.{rowPaid, row-tallies, paid-more, paid-ended}
 use borrow.Author.Needs.{needs}
 use Rattle.bound.proofs.cost.Statement.{statement}
 use Rattle.bound.proofs.cost.Tie as tie
 
 abbrev Inv-loop : tie.InvT-loop
-Inv-loop words l prices rows memo₀ weeks sum₀ t₀ memo sum t = (t ≤ weeks) × (weeks ≤ 52) × (length memo ≡ length memo₀) × Recalls (problemOf words)
-    (priceIn prices) memo × (sum .0 ≤ 272435456 * t) × (sum .0 ≡ sumTo t (rowPaid (problemOf words) rows))
+Inv-loop words l rows memo₀ weeks sum₀ t₀ memo sum t = (t ≤ weeks) × (weeks ≤ 52) × (length memo ≡ length memo₀) × Right (problemOf words) memo × Others memo₀ memo
+    × (sum .0 ≤ 272435456 * t) × (sum .0 ≡ sumTo t (rowPaid (problemOf words) rows))
 
 abbrev μ-loop : tie.MeasureT-loop
-μ-loop words l prices rows memo₀ weeks sum₀ t₀ memo sum t = weeks - t
+μ-loop words l rows memo₀ weeks sum₀ t₀ memo sum t = weeks - t
 
 loop-holds : tie.Need-loop-holds Inv-loop μ-loop
-loop-holds c = (search needs, search needs, search needs, search needs, search needs, search sum-start)
+loop-holds c = (search needs, search needs, refl, search needs, search others-same, search needs, search sum-start)
 
 mul-week-cost : tie.Need-mul-week-cost Inv-loop μ-loop
 mul-week-cost c = search needs
@@ -29,7 +30,7 @@ element-copy-out-week-cost : tie.Need-element-copy-out-week-cost Inv-loop μ-loo
 element-copy-out-week-cost c = search needs
 
 week-cost-requires : tie.Need-week-cost-requires Inv-loop μ-loop
-week-cost-requires c κs = (search needs, (search needs, (search row-tallies, search needs)))
+week-cost-requires c κs = (search needs, search needs, search row-tallies, search needs)
 
 plus-requires : tie.Need-plus-requires Inv-loop μ-loop
 plus-requires c κs = search needs
@@ -41,13 +42,13 @@ loop-less : tie.Need-loop-less Inv-loop μ-loop
 loop-less c = search needs
 
 loop-again : tie.Need-loop-again Inv-loop μ-loop
-loop-again c = (search needs, search needs, search needs, search needs, search needs, search paid-more)
+loop-again c = (search needs, search needs, search needs, search needs, search others-trans, search needs, search paid-more)
 
 same-length : tie.Need-same-length Inv-loop μ-loop
 same-length c = search needs
 
 returns : tie.Need-returns Inv-loop μ-loop
-returns c = (search paid-ended, search needs)
+returns c = (search paid-ended, (search needs, search needs))
 
 pub cost-spec : {M : Type 1} → statement M
 cost-spec =

@@ -1,8 +1,6 @@
 -- `bound::week_cost` meets its contract: the maintenance of the units out, and the cheapest run.
 -- Assumes nothing.
-use Rattle.relaxation.proofs.ValueLaws.{recalls-others}
 use Rattle.bound.proofs.LeafLaws.{week-paid, paid-fits, paid-most}
-use borrow.Author.Needs.{needs}
 use borrow.Author.Needs.{needs}
 use Rattle.bound.proofs.week_cost.Statement.{statement}
 use Rattle.bound.proofs.week_cost.Tie as tie
@@ -20,7 +18,7 @@ same-length : tie.Need-same-length
 same-length c = search needs
 
 returns : tie.Need-returns
-returns c = ((search week-paid, search paid-most), search recalls-others)
+returns c = ((search week-paid, search paid-most), search needs)
 
 pub week-cost-spec : {M : Type 1} → statement M
 week-cost-spec =

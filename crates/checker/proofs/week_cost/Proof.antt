@@ -5,7 +5,7 @@ use mathlib.Core.Path.{_≡_}
 use borrow.Author.Needs.{needs}
 use Rattle.sums.specs.Sum.{sumTo}
 use Rattle.sums.proofs.LoopLaws.{sum-start, sum-next}
-use Rattle.model.specs.Words.{problemOf}
+use Rattle.model.specs.Words.{VALUES, problemOf}
 use Rattle.model.specs.Grid.{cell}
 use Rattle.model.specs.Rules.{charge}
 use Rattle.checker.proofs.CostLaws.{week-ended}
@@ -14,7 +14,7 @@ use Rattle.checker.proofs.week_cost.Tie as tie
 
 abbrev Inv-loop : tie.InvT-loop
 Inv-loop words grid l t units sum₀ i₀ sum i =
-    (i ≤ units) × (sum .0 ≤ 268435456 * i) × (sum .0 ≡ sumTo i (charge (problemOf words) (cell (l .units) grid) t))
+    (i ≤ units) × (sum .0 ≤ VALUES * i) × (sum .0 ≡ sumTo i (charge (problemOf words) (cell (l .units) grid) t))
 
 abbrev μ-loop : tie.MeasureT-loop
 μ-loop words grid l t units sum₀ i₀ sum i = units - i

@@ -3,10 +3,11 @@
 use Prim.Native.Nat.{_-_, _≤_}
 use mathlib.Core.Path.{_≡_, refl}
 use lib.ListN.{length}
+use Rattle.sums.proofs.TableLaws.{at-most-start, at-most-put}
 use Rattle.model.specs.Words.{problemOf}
 use Rattle.cover.specs.Tables.{Caps}
 use Rattle.commitment.specs.Score.{Column}
-use Rattle.commitment.proofs.ColumnLaws.{column-start, caps-start, column-next, caps-next, column-ended}
+use Rattle.commitment.proofs.ColumnLaws.{column-start, column-next, column-ended}
 use borrow.Author.Needs.{needs}
 use Rattle.commitment.proofs.capacities.Statement.{statement}
 use Rattle.commitment.proofs.capacities.Tie as tie
@@ -19,7 +20,7 @@ abbrev μ-loop : tie.MeasureT-loop
 μ-loop words l t units caps₀ i₀ caps i = units - i
 
 loop-holds : tie.Need-loop-holds Inv-loop μ-loop
-loop-holds c = (search needs, (refl, (search column-start, caps-start 16)))
+loop-holds c = (search needs, (refl, (search column-start, search (needs, at-most-start))))
 
 capacity-requires : tie.Need-capacity-requires Inv-loop μ-loop
 capacity-requires c κs = search needs
@@ -37,7 +38,7 @@ loop-less : tie.Need-loop-less Inv-loop μ-loop
 loop-less c = search needs
 
 loop-again : tie.Need-loop-again Inv-loop μ-loop
-loop-again c = (search needs, (search needs, (search column-next, search caps-next)))
+loop-again c = (search needs, (search needs, (search column-next, search at-most-put)))
 
 returns : tie.Need-returns Inv-loop μ-loop
 returns c = (search column-ended, search needs)

@@ -4,10 +4,11 @@ use Prim.Native.Nat.{_-_, _≤_}
 use mathlib.Core.Path.{_≡_, refl}
 use lib.ListN.{length}
 use Rattle.sums.specs.NumSet.{power}
+use Rattle.sums.proofs.TableLaws.{at-most-start, at-most-put}
 use Rattle.model.specs.Words.{problemOf}
 use Rattle.cover.specs.Tables.{Weights}
 use Rattle.commitment.specs.Score.{weightOf, Column}
-use Rattle.commitment.proofs.ColumnLaws.{column-start, column-ended, weights-start, weight-next, weights-next}
+use Rattle.commitment.proofs.ColumnLaws.{column-start, column-ended, weight-next}
 use Rattle.commitment.proofs.ColumnLaws.{number-start, number-next, number-most}
 use borrow.Author.Needs.{needs}
 use Rattle.commitment.proofs.weights.Statement.{statement}
@@ -21,7 +22,7 @@ abbrev μ-loop : tie.MeasureT-loop
 μ-loop words l t units table₀ number₀ i₀ table number i = units - i
 
 loop-holds : tie.Need-loop-holds Inv-loop μ-loop
-loop-holds c = (search needs, (refl, (search number-start, (search column-start, weights-start 16))))
+loop-holds c = (search needs, (refl, (search number-start, (search column-start, search (needs, at-most-start)))))
 
 running-cost-requires : tie.Need-running-cost-requires Inv-loop μ-loop
 running-cost-requires c κs = search needs
@@ -48,7 +49,7 @@ loop-less : tie.Need-loop-less Inv-loop μ-loop
 loop-less c = search needs
 
 loop-again : tie.Need-loop-again Inv-loop μ-loop
-loop-again c = (search needs, (search needs, (search number-next, (search weight-next, search weights-next))))
+loop-again c = (search needs, (search needs, (search number-next, (search weight-next, search at-most-put))))
 
 returns : tie.Need-returns Inv-loop μ-loop
 returns c = (search column-ended, search needs)

@@ -1,17 +1,17 @@
 -- `cover::walk` meets its contract, by recursion on the number of units left: each cut leaves the choice as it is, and each turn is the definition's.
 -- Assumes nothing.
 use Prim.Native.Nat.{ℕ, _-_, _<_}
-use native.Mathlib.Omega.{arith}
 use borrow.Author.Needs.{needs}
 use borrow.Fn.Kinds.{In}
 use borrow.Fn.PlainCycle.{Measures, is, falls, and}
-use Rattle.cover.proofs.TableLaws.{cut-dear, cut-room, cut-rate, need-small, gain-small, leaf, turn-out, turn-in, weight-more}
+use Rattle.cover.proofs.TableLaws.{cut-dear, cut-room, cut-rate, need-small, gain-small, leaf, turn-out, turn-in}
 use Rattle.cover.proofs.walk.Reads as walk
 use Rattle.cover.proofs.walk.Kinds as walk-kinds
 use Rattle.cover.proofs.+walk.Lts-walk as walk-lts
 use Rattle.cover.proofs.hopeless.Reads as hopeless-reads
 use Rattle.instance.proofs.Kilo.less.Reads as less-reads
 use Rattle.sets.proofs.has.Reads as has-reads
+use Rattle.cover.proofs.weight_with.Reads as weight-with-reads
 use Rattle.cover.proofs.+walk.{statement}
 use Rattle.cover.proofs.+walk.Tie.{close}
 
@@ -27,7 +27,7 @@ walk-below t = and 4 walk-kinds.ps (falls 4 walk-kinds.ps _<_ μ-walk t) walk.Pr
 -- what the walk asks of its callees and learns from them, itself among them
 abbrev claims : ℕ → walk-lts.Claims
 claims t =
-    (hopeless-reads.Asked, hopeless-reads.Learnt, walk-below t, walk.Post, has-reads.Asked, has-reads.Learnt, less-reads.Asked, less-reads.Learnt)
+    (hopeless-reads.Asked, hopeless-reads.Learnt, walk-below t, walk.Post, has-reads.Asked, has-reads.Learnt, less-reads.Asked, less-reads.Learnt, weight-with-reads.Asked, weight-with-reads.Learnt)
 
 walk-returns : (t : ℕ) → walk-lts.Need-returns (claims t) (walk-at t) walk.Post
 walk-returns t c = (cut-dear _ _ _ _ _ _ _ (search needs), search needs)
@@ -77,22 +77,11 @@ walk-element-copy-out-walk t c = search needs
 walk-less-requires : (t : ℕ) → walk-lts.Need-less-requires (claims t) (walk-at t) walk.Post
 walk-less-requires t c κs = search needs
 
-walk-mul-walk-2 : (t : ℕ) → walk-lts.Need-mul-walk-2 (claims t) (walk-at t) walk.Post
-walk-mul-walk-2 t c = search needs
-
-walk-element-copy-out-walk-2 : (t : ℕ) → walk-lts.Need-element-copy-out-walk-2 (claims t) (walk-at t) walk.Post
-walk-element-copy-out-walk-2 t c = search needs
-
-walk-add-walk : (t : ℕ) → walk-lts.Need-add-walk (claims t) (walk-at t) walk.Post
-walk-add-walk t c =
-    let a = c .before .before .before .before .before .before .before .before .before .before .before .before .before .before in
-    let lighter = c .before .before .before .before .before .before .before .before .before .before .before .before .before .if1 .left in
-    omega (arith, weight-more _ _ _ _ _ _ (a .args .k - 1) _ _ (a .pre .1 .0) lighter (a .pre .1 .1 .1))
+walk-weight-with-requires : (t : ℕ) → walk-lts.Need-weight-with-requires (claims t) (walk-at t) walk.Post
+walk-weight-with-requires t c κs = search needs
 
 walk-walk-requires-2 : (t : ℕ) → walk-lts.Need-walk-requires-2 (claims t) (walk-at t) walk.Post
-walk-walk-requires-2 t c κs =
-    let a = c .before .before .before .before .before .before .before .before .before .before .before .before .before .before in
-    (search needs, (a .pre .1 .0, search needs))
+walk-walk-requires-2 t c κs = (search needs, (search needs, search needs))
 
 walk-returns-6 : (t : ℕ) → walk-lts.Need-returns-6 (claims t) (walk-at t) walk.Post
 walk-returns-6 t c = (search turn-in, search needs)
@@ -117,8 +106,6 @@ pub +walk-spec : {M : Type 1} → statement M
     (walk-mul-walk t)
     (walk-element-copy-out-walk t)
     (walk-less-requires t)
-    (walk-mul-walk-2 t)
-    (walk-element-copy-out-walk-2 t)
-    (walk-add-walk t)
+    (walk-weight-with-requires t)
     (walk-walk-requires-2 t)
     (walk-returns-6 t)

@@ -11,23 +11,23 @@ has-requires c κs = search needs
 returns : tie.Need-returns
 returns c = search away-out
 
-mul-above : tie.Need-mul-above
-mul-above c = search needs
+mul-saturating-sub : tie.Need-mul-saturating-sub
+mul-saturating-sub c = search needs
 
-element-copy-out-above : tie.Need-element-copy-out-above
-element-copy-out-above c = search needs
+element-copy-out-saturating-sub : tie.Need-element-copy-out-saturating-sub
+element-copy-out-saturating-sub c = search needs
 
-mul-above-2 : tie.Need-mul-above-2
-mul-above-2 c = search (needs, rate-fits)
+mul-saturating-sub-2 : tie.Need-mul-saturating-sub-2
+mul-saturating-sub-2 c = search (needs, rate-fits)
 
-mul-above-3 : tie.Need-mul-above-3
-mul-above-3 c = search needs
+mul-saturating-sub-3 : tie.Need-mul-saturating-sub-3
+mul-saturating-sub-3 c = search needs
 
-element-copy-out-above-2 : tie.Need-element-copy-out-above-2
-element-copy-out-above-2 c = search needs
+element-copy-out-saturating-sub-2 : tie.Need-element-copy-out-saturating-sub-2
+element-copy-out-saturating-sub-2 c = search needs
 
-above-requires : tie.Need-above-requires
-above-requires c κs = search needs
+saturating-sub-requires : tie.Need-saturating-sub-requires
+saturating-sub-requires c κs = search needs
 
 returns-2 : tie.Need-returns-2
 returns-2 c = search away-surplus
@@ -38,10 +38,10 @@ free-surplus-spec =
     (tie.spec
     has-requires
     returns
-    mul-above
-    element-copy-out-above
-    mul-above-2
-    mul-above-3
-    element-copy-out-above-2
-    above-requires
+    mul-saturating-sub
+    element-copy-out-saturating-sub
+    mul-saturating-sub-2
+    mul-saturating-sub-3
+    element-copy-out-saturating-sub-2
+    saturating-sub-requires
     returns-2)

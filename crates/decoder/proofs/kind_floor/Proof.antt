@@ -5,6 +5,15 @@ use borrow.Author.Needs.{needs}
 use Rattle.decoder.proofs.kind_floor.Statement.{statement}
 use Rattle.decoder.proofs.kind_floor.Tie as tie
 
+cast-result : tie.Need-cast-result
+cast-result c = search needs
+
+div-result : tie.Need-div-result
+div-result c = search needs
+
+cast-result-2 : tie.Need-cast-result-2
+cast-result-2 c = search needs
+
 mul-result : tie.Need-mul-result
 mul-result c = search needs
 
@@ -13,4 +22,4 @@ unfolding kindOf
 returns c = search needs
 
 pub kind-floor-spec : {M : Type 1} → statement M
-kind-floor-spec = tie.close (tie.spec mul-result returns)
+kind-floor-spec = tie.close (tie.spec cast-result div-result cast-result-2 mul-result returns)

@@ -25,8 +25,8 @@ shared-slice-read-kind-floor c = search needs
 kind-floor-requires : tie.Need-kind-floor-requires Inv-loop μ-loop
 kind-floor-requires c κs = search needs
 
-least-requires : tie.Need-least-requires Inv-loop μ-loop
-least-requires c κs = search needs
+min-requires : tie.Need-min-requires Inv-loop μ-loop
+min-requires c κs = search needs
 
 add-p : tie.Need-add-p Inv-loop μ-loop
 add-p c = search needs
@@ -67,7 +67,7 @@ pass-spec =
     mul-kind-floor
     shared-slice-read-kind-floor
     kind-floor-requires
-    least-requires
+    min-requires
     add-p
     loop-holds
     mul-wrapping-sub-u32

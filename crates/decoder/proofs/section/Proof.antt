@@ -5,8 +5,8 @@ use borrow.Author.Needs.{needs}
 use Rattle.decoder.proofs.section.Statement.{statement}
 use Rattle.decoder.proofs.section.Tie as tie
 
-wide-requires : tie.Need-wide-requires
-wide-requires c κs = search needs
+widen-requires : tie.Need-widen-requires
+widen-requires c κs = search needs
 
 range-requires : tie.Need-range-requires
 range-requires c κs = search needs
@@ -15,4 +15,4 @@ returns : tie.Need-returns
 returns c = (search section-range, search needs, search needs)
 
 pub section-spec : {M : Type 1} → statement M
-section-spec = tie.close (tie.spec wide-requires range-requires returns)
+section-spec = tie.close (tie.spec widen-requires range-requires returns)

@@ -3,7 +3,7 @@
 use Prim.Native.Nat.{_-_, _^_, _≤_, min}
 use mathlib.Core.Path.{_≡_}
 use Rattle.sums.specs.Sum.{sumTo}
-use Rattle.model.specs.Prefix.{powerUp}
+use Rattle.model.specs.Prefix.{powerUp, MOST_FIGURE}
 use Rattle.decoder.proofs.SizingLaws.{power-start, sum-start, cap-fits, cap-power, cap-sum, cap-ended}
 use borrow.Author.Needs.{needs}
 use Rattle.decoder.proofs.space_bound.Statement.{statement}
@@ -11,7 +11,7 @@ use Rattle.decoder.proofs.space_bound.Tie as tie
 
 abbrev Inv-loop : tie.InvT-loop
 Inv-loop w u power₀ sum₀ j₀ power sum j =
-    (j ≤ u) × (power ≤ 268435455) × (sum ≤ 268435455) × (power ≡ min 268435455 (w ^ j)) × (sum ≡ min 268435455 (sumTo j (powerUp w)))
+    (j ≤ u) × (power ≤ MOST_FIGURE) × (sum ≤ MOST_FIGURE) × (power ≡ min MOST_FIGURE (w ^ j)) × (sum ≡ min MOST_FIGURE (sumTo j (powerUp w)))
 
 abbrev μ-loop : tie.MeasureT-loop
 μ-loop w u power₀ sum₀ j₀ power sum j = u - j

@@ -11,11 +11,11 @@ use Rattle.dual.proofs.span_cost.Statement.{statement}
 use Rattle.dual.proofs.span_cost.Tie as tie
 
 abbrev Inv-loop : tie.InvT-loop
-Inv-loop words l prices i start duration first sum₀ k₀ sum k = (k ≤ duration) × (first + duration ≤ l .weeks) × (sum .0 ≤ 4444304 * k) ×
-    (sum .0 ≡ sumTo k (shifted first (pricedWeek words prices i)))
+Inv-loop words l tables i start duration first sum₀ k₀ sum k = (k ≤ duration) × (first + duration ≤ l .weeks) × (sum .0 ≤ 4444304 * k) ×
+    (sum .0 ≡ sumTo k (shifted first (pricedWeek words tables i)))
 
 abbrev μ-loop : tie.MeasureT-loop
-μ-loop words l prices i start duration first sum₀ k₀ sum k = duration - k
+μ-loop words l tables i start duration first sum₀ k₀ sum k = duration - k
 
 duration-requires : tie.Need-duration-requires Inv-loop μ-loop
 duration-requires c κs = search needs
@@ -32,11 +32,11 @@ add-maint-cost c = search needs
 maint-cost-requires : tie.Need-maint-cost-requires Inv-loop μ-loop
 maint-cost-requires c κs = search needs
 
-add-price-of : tie.Need-add-price-of Inv-loop μ-loop
-add-price-of c = search needs
+add-price : tie.Need-add-price Inv-loop μ-loop
+add-price c = search needs
 
-price-of-requires : tie.Need-price-of-requires Inv-loop μ-loop
-price-of-requires c κs = search needs
+price-requires : tie.Need-price-requires Inv-loop μ-loop
+price-requires c κs = search needs
 
 plus-requires : tie.Need-plus-requires Inv-loop μ-loop
 plus-requires c κs = search needs
@@ -67,8 +67,8 @@ span-cost-spec =
     loop-holds
     add-maint-cost
     maint-cost-requires
-    add-price-of
-    price-of-requires
+    add-price
+    price-requires
     plus-requires
     plus-requires-2
     add-k

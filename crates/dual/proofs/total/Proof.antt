@@ -4,18 +4,18 @@ use Prim.Native.Nat.{_+_, _-_, _*_, _≤_}
 use mathlib.Core.Path.{_≡_}
 use Rattle.sums.specs.Sum.{sumTo, rowSum}
 use Rattle.model.specs.Words.{problemOf}
-use Rattle.relaxation.specs.Relaxed.{priceIn}
+use Rattle.tables.specs.Tables.{priceIn}
 use Rattle.dual.proofs.RootLaws.{total-start, total-next, total-ended}
 use borrow.Author.Needs.{needs}
 use Rattle.dual.proofs.total.Statement.{statement}
 use Rattle.dual.proofs.total.Tie as tie
 
 abbrev Inv-loop : tie.InvT-loop
-Inv-loop words l prices weeks sum₀ t₀ sum t = (t ≤ weeks) × (weeks ≤ 52) × (sum .0 ≤ 71108864 * t) ×
-    (sum .0 ≡ sumTo t (rowSum (l .units) (problemOf words .off)) + sumTo t (rowSum (l .units) (priceIn prices)))
+Inv-loop words l tables weeks sum₀ t₀ sum t = (t ≤ weeks) × (weeks ≤ 52) × (sum .0 ≤ 71108864 * t) ×
+    (sum .0 ≡ sumTo t (rowSum (l .units) (problemOf words .off)) + sumTo t (rowSum (l .units) (priceIn tables)))
 
 abbrev μ-loop : tie.MeasureT-loop
-μ-loop words l prices weeks sum₀ t₀ sum t = weeks - t
+μ-loop words l tables weeks sum₀ t₀ sum t = weeks - t
 
 loop-holds : tie.Need-loop-holds Inv-loop μ-loop
 loop-holds c = (search needs, search needs, search needs, search total-start)

@@ -4,22 +4,22 @@ use Prim.Native.Nat.{_-_, _*_, _≤_}
 use mathlib.Core.Path.{_≡_}
 use Rattle.sums.specs.Sum.{sumTo}
 use Rattle.sums.proofs.LoopLaws.{sum-start, sum-next, sum-ended}
-use Rattle.relaxation.specs.Relaxed.{priceIn}
+use Rattle.tables.specs.Tables.{priceIn}
 use borrow.Author.Needs.{needs}
 use Rattle.dual.proofs.week_prices.Statement.{statement}
 use Rattle.dual.proofs.week_prices.Tie as tie
 
 abbrev Inv-loop : tie.InvT-loop
-Inv-loop prices t units sum₀ i₀ sum i = (i ≤ units) × (units ≤ 16) × (sum .0 ≤ 4194304 * i) × (sum .0 ≡ sumTo i (priceIn prices t))
+Inv-loop tables t units sum₀ i₀ sum i = (i ≤ units) × (units ≤ 16) × (sum .0 ≤ 4194304 * i) × (sum .0 ≡ sumTo i (priceIn tables t))
 
 abbrev μ-loop : tie.MeasureT-loop
-μ-loop prices t units sum₀ i₀ sum i = units - i
+μ-loop tables t units sum₀ i₀ sum i = units - i
 
 loop-holds : tie.Need-loop-holds Inv-loop μ-loop
 loop-holds c = (search needs, search needs, search needs, search sum-start)
 
-price-of-requires : tie.Need-price-of-requires Inv-loop μ-loop
-price-of-requires c κs = search needs
+price-requires : tie.Need-price-requires Inv-loop μ-loop
+price-requires c κs = search needs
 
 plus-requires : tie.Need-plus-requires Inv-loop μ-loop
 plus-requires c κs = search needs
@@ -43,7 +43,7 @@ week-prices-spec =
     Inv-loop
     μ-loop
     loop-holds
-    price-of-requires
+    price-requires
     plus-requires
     add-i
     loop-less

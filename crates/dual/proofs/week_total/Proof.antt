@@ -21,4 +21,5 @@ returns : tie.Need-returns
 returns c = (search week-total, search needs)
 
 pub week-total-spec : {M : Type 1} → statement M
-week-total-spec = tie.close (tie.spec below-requires off-sum-requires week-prices-requires plus-requires returns)
+week-total-spec =
+    tie.close (tie.spec below-requires off-sum-requires week-prices-requires plus-requires returns)

@@ -1,16 +1,15 @@
 -- `instance::cell_place` meets its contract: the cell lies in the table, so neither product nor sum wraps.
 -- Assumes nothing.
 use mathlib.Core.Path.{refl}
-use native.Mathlib.Omega.{arith}
-use Rattle.instance.proofs.PlaceLaws.{cell-below}
+use Rattle.instance.proofs.PlaceLaws.{cell-below, cell-fits, row-fits}
 use Rattle.instance.proofs.cell_place.Statement.{statement}
 use Rattle.instance.proofs.cell_place.Tie as tie
 
 mul-result : tie.Need-mul-result
-mul-result c = omega (arith, cell-below _ _ _ _ (c .before .pre .1 .0) (c .before .pre .1 .1))
+mul-result c = search row-fits
 
 add-result : tie.Need-add-result
-add-result c = omega (arith, cell-below _ _ _ _ (c .before .pre .1 .0) (c .before .pre .1 .1))
+add-result c = search cell-fits
 
 returns : tie.Need-returns
 returns c = (refl, search cell-below)

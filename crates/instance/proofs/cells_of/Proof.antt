@@ -1,4 +1,4 @@
--- `instance::cells_of` meets its contract: the product of two numbers below 2^28.
+-- `instance::cells_of` meets its contract: the product of two numbers below VALUES.
 -- Assumes nothing.
 use Rattle.instance.proofs.PlaceLaws.{table-below}
 use mathlib.Core.Path.{refl}

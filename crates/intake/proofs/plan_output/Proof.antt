@@ -1,6 +1,5 @@
 -- `intake::plan_output` meets its contract: the text with the program's own buffers.
 -- Assumes nothing.
-use mathlib.Core.Path.{refl}
 use Rattle.intake.proofs.ProgramLaws.{text-printed}
 use borrow.Author.Needs.{needs}
 use Rattle.intake.proofs.plan_output.Statement.{statement}
@@ -23,7 +22,7 @@ same-length c = search needs
 
 -- the sizes of the three buffers compute
 returns : tie.Need-returns
-returns c = text-printed _ _ _ _ _ _ _ _ _ _ (c .before .before .before .before .before .plan-text .ensures) refl refl refl
+returns c = search text-printed
 
 pub plan-output-spec : {M : Type 1} → statement M
 plan-output-spec =

@@ -14,14 +14,14 @@ latest-requires c κs = search needs
 duration-requires : tie.Need-duration-requires
 duration-requires c κs = search needs
 
-sub-smaller : tie.Need-sub-smaller
-sub-smaller c = search needs
+sub-min : tie.Need-sub-min
+sub-min c = search needs
 
-add-smaller : tie.Need-add-smaller
-add-smaller c = search needs
+add-min : tie.Need-add-min
+add-min c = search needs
 
-smaller-requires : tie.Need-smaller-requires
-smaller-requires c κs = search needs
+min-requires : tie.Need-min-requires
+min-requires c κs = search needs
 
 returns : tie.Need-returns
 returns c = ((search needs, search last-is), (search starts-range, search needs, search last-within))
@@ -33,7 +33,7 @@ starts-of-spec =
     earliest-requires
     latest-requires
     duration-requires
-    sub-smaller
-    add-smaller
-    smaller-requires
+    sub-min
+    add-min
+    min-requires
     returns)

@@ -1,37 +1,33 @@
 -- `planner::reply` meets its contract: the memory answers, or the search.
 -- Assumes nothing.
-use Rattle.planner.proofs.MemoryLaws.{replied-none, replied-again, replied-solved}
-use borrow.Author.Needs.{needs}
+use Rattle.planner.proofs.DueLaws.{reply-few, told-none, told-again, told-asks, told-solved}
 use borrow.Author.Needs.{needs}
 use Rattle.planner.proofs.reply.Statement.{statement}
 use Rattle.planner.proofs.reply.Tie as tie
+
+ceiling-requires : tie.Need-ceiling-requires
+ceiling-requires c κs = search reply-few
+
+cast-if1 : tie.Need-cast-if1
+cast-if1 c = search needs
 
 none-requires : tie.Need-none-requires
 none-requires c κs = search needs
 
 returns : tie.Need-returns
-returns c = let a = c .before .before .before .before .before .before .before in (
-  replied-none _ _ _ _ _ (a .pre .1 .1 .0) _ (c .before .if1 .taken)
-      (c .none .ensures),
-  a .pre .1 .1 .1 .1,
-)
+returns c = search told-none
 
 again-requires : tie.Need-again-requires
 again-requires c κs = search needs
 
 returns-2 : tie.Need-returns-2
-returns-2 c = let a = c .before .before .before .before .before .before .before .before .before in (
-  replied-again _ _ _ _ _ (a .pre .1 .1 .0) _
-      (c .before .before .before .if1 .left) (c .before .before .if2 .taken) (c .again .ensures),
-  a .pre .1 .1 .1 .1,
-)
+returns-2 c = search told-again
+
+budget-requires : tie.Need-budget-requires
+budget-requires c κs = search reply-few
 
 solve-requires : tie.Need-solve-requires
-solve-requires c κs =
-    let a = c .before .before .before .before .before .before .before .before .before in (
-      a .pre .0,
-      (a .pre .1 .1 .1 .0, ((a .pre .1 .0, a .pre .1 .1 .0 .room), (a .pre .1 .1 .0 .held, a .pre .1 .1 .1 .1))),
-    )
+solve-requires c κs = search told-asks
 
 same-length : tie.Need-same-length
 same-length c = search needs
@@ -40,21 +36,19 @@ same-length-2 : tie.Need-same-length-2
 same-length-2 c = search needs
 
 returns-3 : tie.Need-returns-3
-returns-3 c = let a = c .before .before .before .before .before .before .before .before .before .before .before .before .before .before in (
-  replied-solved _ _ _ _ _ (a .pre .1 .1 .0) _ _ (c .before .before .before .before .before .before .before .before .if1 .left)
-      (c .before .before .before .before .before .before .before .if2 .left) (c .before .before .before .before .solve .ensures .0),
-  c .before .before
-      .before .before .solve .ensures .1,
-)
+returns-3 c = search told-solved
 
 pub reply-spec : {M : Type 1} → statement M
 reply-spec =
     tie.close
     (tie.spec
+    ceiling-requires
+    cast-if1
     none-requires
     returns
     again-requires
     returns-2
+    budget-requires
     solve-requires
     same-length
     same-length-2

@@ -5,11 +5,17 @@ use borrow.Author.Needs.{needs}
 use Rattle.quotes.proofs.query_cost.Statement.{statement}
 use Rattle.quotes.proofs.query_cost.Tie as tie
 
-wide-requires : tie.Need-wide-requires
-wide-requires c κs = search needs
+widen-requires : tie.Need-widen-requires
+widen-requires c κs = search needs
+
+cast-result : tie.Need-cast-result
+cast-result c = search needs
 
 returns : tie.Need-returns
 returns c = (search query-zero, search needs)
+
+cast-result-2 : tie.Need-cast-result-2
+cast-result-2 c = search needs
 
 returns-2 : tie.Need-returns-2
 returns-2 c = (search query-beyond, search needs)
@@ -20,8 +26,8 @@ sub-least-cost c = search needs
 least-cost-requires : tie.Need-least-cost-requires
 least-cost-requires c κs = (search needs, (search needs, search needs))
 
-cast-result : tie.Need-cast-result
-cast-result c = search needs
+cast-result-3 : tie.Need-cast-result-3
+cast-result-3 c = search needs
 
 same-length : tie.Need-same-length
 same-length c = search needs
@@ -33,11 +39,13 @@ pub query-cost-spec : {M : Type 1} → statement M
 query-cost-spec =
     tie.close
     (tie.spec
-    wide-requires
+    widen-requires
+    cast-result
     returns
+    cast-result-2
     returns-2
     sub-least-cost
     least-cost-requires
-    cast-result
+    cast-result-3
     same-length
     returns-3)

@@ -3,7 +3,6 @@
 -- Assumes nothing.
 use Prim.Native.Nat.{_+_, _-_, _*_, _≤_}
 use mathlib.Core.Path.{_≡_, refl}
-use native.Mathlib.Nat.{le-refl}
 use native.Mathlib.Omega.{arith}
 use lib.ListN.{length}
 use borrow.Author.Needs.{needs}
@@ -11,11 +10,11 @@ use Rattle.sums.specs.NumSet.{has}
 use Rattle.model.specs.Words.{problemOf}
 use Rattle.memo.specs.Memo.{Right, Others}
 use Rattle.memo.proofs.EntryLaws.{others-same, others-trans}
-use Rattle.relaxation.specs.Relaxed.{priceIn}
+use Rattle.tables.specs.Tables.{priceIn}
 use Rattle.relaxation.specs.Choosing.{Floor}
 use Rattle.relaxation.proofs.LeftLaws.{spare-small, spare-next}
-use Rattle.relaxation.proofs.NodeLaws.{low-small, rest-small, price-in, known-child, spare-child}
-use Rattle.relaxation.proofs.NodeLaws.{choose-start, choose-full, choose-cut, choose-over, choose-tried, choose-ended}
+use Rattle.relaxation.proofs.NodeLaws.{low-small, with-open, choosing-on, choosing-with}
+use Rattle.relaxation.proofs.NodeLaws.{choose-start, choose-full, choose-cut, choose-over, choose-tried, choose-next, choose-ended}
 use Prim.Native.Nat.{ℕ, _<_}
 use borrow.Fn.Kinds.{In}
 use borrow.Fn.PlainCycle.{Measures, is, falls, and}
@@ -25,34 +24,32 @@ use Rattle.relaxation.proofs.+choose+choose_with.Lts-choose as choose-l
 use Rattle.relaxation.proofs.choose_with.Reads as choose-with
 use Rattle.relaxation.proofs.choose_with.Kinds as choose-with-kinds
 use Rattle.relaxation.proofs.+choose+choose_with.Lts-choose_with as choose-with-lts
-use Rattle.memo.proofs.full_least.Reads as full-least-reads
 use Rattle.relaxation.proofs.better.Reads as better-reads
-use Rattle.relaxation.proofs.child.Reads as child-reads
 use Rattle.relaxation.proofs.no_gain.Reads as no-gain-reads
 use Rattle.relaxation.proofs.passed_over.Reads as passed-over-reads
-use Rattle.sets.proofs.with.Reads as with-reads
+use Rattle.relaxation.proofs.with_unit.Reads as with-unit-reads
 use Rattle.relaxation.proofs.+choose+choose_with.{statement}
 use Rattle.relaxation.proofs.+choose+choose_with.Tie.{close}
 
-abbrev μ-choose : Measures 5 choose-kinds.ps ℕ
-μ-choose κs a = 2 * a .1 .1 .1 .1 .1 .1 .0 + 1
+abbrev μ-choose : Measures 4 choose-kinds.ps ℕ
+μ-choose κs a = 2 * a .1 .1 .1 .1 .1 .0 + 1
 
-abbrev μ-choose-with : Measures 5 choose-with-kinds.ps ℕ
-μ-choose-with κs a = 2 * a .1 .1 .1 .1 .1 .1 .0 + 2
+abbrev μ-choose-with : Measures 4 choose-with-kinds.ps ℕ
+μ-choose-with κs a = 2 * a .1 .1 .1 .1 .1 .0 + 2
 
-abbrev choose-at : ℕ → In 5 choose-kinds.ps
-choose-at t = and 5 choose-kinds.ps (is 5 choose-kinds.ps μ-choose t) choose.Pre
+abbrev choose-at : ℕ → In 4 choose-kinds.ps
+choose-at t = and 4 choose-kinds.ps (is 4 choose-kinds.ps μ-choose t) choose.Pre
 
-abbrev choose-below : ℕ → In 5 choose-kinds.ps
-choose-below t = and 5 choose-kinds.ps (falls 5 choose-kinds.ps _<_ μ-choose t) choose.Pre
+abbrev choose-below : ℕ → In 4 choose-kinds.ps
+choose-below t = and 4 choose-kinds.ps (falls 4 choose-kinds.ps _<_ μ-choose t) choose.Pre
 
-abbrev choose-with-at : ℕ → In 5 choose-with-kinds.ps
+abbrev choose-with-at : ℕ → In 4 choose-with-kinds.ps
 choose-with-at t =
-    and 5 choose-with-kinds.ps (is 5 choose-with-kinds.ps μ-choose-with t) choose-with.Pre
+    and 4 choose-with-kinds.ps (is 4 choose-with-kinds.ps μ-choose-with t) choose-with.Pre
 
-abbrev choose-with-below : ℕ → In 5 choose-with-kinds.ps
+abbrev choose-with-below : ℕ → In 4 choose-with-kinds.ps
 choose-with-below t =
-    and 5 choose-with-kinds.ps (falls 5 choose-with-kinds.ps _<_ μ-choose-with t) choose-with.Pre
+    and 4 choose-with-kinds.ps (falls 4 choose-with-kinds.ps _<_ μ-choose-with t) choose-with.Pre
 
 -- what each of the two asks of its callees and learns from them
 abbrev choose-claims : ℕ → choose-lts.Claims
@@ -69,23 +66,19 @@ abbrev choose-with-claims : ℕ → choose-with-lts.Claims
 choose-with-claims t = (
   passed-over-reads.Asked,
   passed-over-reads.Learnt,
-  with-reads.Asked,
-  with-reads.Learnt,
-  full-least-reads.Asked,
-  full-least-reads.Learnt,
-  child-reads.Asked,
-  child-reads.Learnt,
+  with-unit-reads.Asked,
+  with-unit-reads.Learnt,
   choose-below t,
   choose.Post,
 )
 
 abbrev choose-Inv-loop : choose-lts.InvT-loop
-choose-Inv-loop words l prices clashes left t k y memo₀ low₀ i₀ memo low i =
-    (i ≤ k) × (low .value .0 ≤ low₀ .value .0) × Floor (problemOf words) (priceIn prices) t (has (y .out)) i (low .value .0)
+choose-Inv-loop words l tables left t k y memo₀ low₀ i₀ memo low i =
+    (i ≤ k) × (low .value .0 ≤ low₀ .value .0) × Floor (problemOf words) (priceIn tables) t (has (y .out)) i (low .value .0)
     × Right (problemOf words) memo × Others memo₀ memo × (length memo ≡ length memo₀)
 
 abbrev choose-μ-loop : choose-lts.MeasureT-loop
-choose-μ-loop words l prices clashes left t k y memo₀ low₀ i₀ memo low i = k - i
+choose-μ-loop words l tables left t k y memo₀ low₀ i₀ memo low i = k - i
 
 choose-better-requires : (t : ℕ) → choose-lts.Need-better-requires (choose-claims t) (choose-at t) choose.Post choose-Inv-loop choose-μ-loop
 choose-better-requires t c κs = search needs
@@ -110,25 +103,7 @@ choose-loop-holds : (t : ℕ) → choose-lts.Need-loop-holds (choose-claims t) (
 choose-loop-holds t c = (search needs, search needs, search choose-start, search needs, search others-same, refl)
 
 choose-choose-with-requires : (t : ℕ) → choose-lts.Need-choose-with-requires (choose-claims t) (choose-at t) choose.Post choose-Inv-loop choose-μ-loop
-choose-choose-with-requires t c κs =
-    let a = c .before .before .before .before .before .before .before .before .before .before .before in
-    let q = a .pre .1 in
-    let l = c .before .before .loop in
-    let more = c .before .loop-test .taken in
-    let room = c .before .before .before .before .before .before .if1 .left in
-    let own = c .before .before .before .before .before .before .before .before .better .ensures .1 in (
-      omega (arith, a .pre .0, more),
-      (
-        q .0,
-        (
-          (q .1 .0 .0, omega (arith, q .1 .0 .1, more)),
-          (
-            q .1 .1 .0,
-            (l .inv .3, (q .1 .1 .1 .1, ((omega (arith, room), omega (arith, l .inv .1, own)), l .inv .2))),
-          ),
-        ),
-      ),
-    )
+choose-choose-with-requires t c κs = (omega arith, (search choosing-on, (search needs, search needs, search needs)))
 
 choose-add-i : (t : ℕ) → choose-lts.Need-add-i (choose-claims t) (choose-at t) choose.Post choose-Inv-loop choose-μ-loop
 choose-add-i t c = search needs
@@ -137,7 +112,7 @@ choose-loop-less : (t : ℕ) → choose-lts.Need-loop-less (choose-claims t) (ch
 choose-loop-less t c = search needs
 
 choose-loop-again : (t : ℕ) → choose-lts.Need-loop-again (choose-claims t) (choose-at t) choose.Post choose-Inv-loop choose-μ-loop
-choose-loop-again t c = (search needs, search needs, search needs, search needs, search others-trans, search needs)
+choose-loop-again t c = (search needs, search needs, search choose-next, search needs, search others-trans, search needs)
 
 choose-same-length : (t : ℕ) → choose-lts.Need-same-length (choose-claims t) (choose-at t) choose.Post choose-Inv-loop choose-μ-loop
 choose-same-length t c = search needs
@@ -149,59 +124,19 @@ choose-with-passed-over-requires : (t : ℕ) → choose-with-lts.Need-passed-ove
 choose-with-passed-over-requires t c κs = (search needs, search low-small, search spare-next)
 
 choose-with-returns : (t : ℕ) → choose-with-lts.Need-returns (choose-with-claims t) (choose-with-at t) choose-with.Post
-choose-with-returns t c = (search choose-over, (le-refl _, (search needs, search others-same)))
+choose-with-returns t c = (search choose-over, (search needs, search others-same))
 
-choose-with-with-requires : (t : ℕ) → choose-with-lts.Need-with-requires (choose-with-claims t) (choose-with-at t) choose-with.Post
-choose-with-with-requires t c κs = search needs
-
-choose-with-full-least-requires : (t : ℕ) → choose-with-lts.Need-full-least-requires (choose-with-claims t) (choose-with-at t) choose-with.Post
-choose-with-full-least-requires t c κs = search needs
-
-choose-with-child-requires : (t : ℕ) → choose-with-lts.Need-child-requires (choose-with-claims t) (choose-with-at t) choose-with.Post
-choose-with-child-requires t c κs = ((search needs, search needs, search needs, search needs), ((search price-in, search rest-small), search needs))
+choose-with-with-unit-requires : (t : ℕ) → choose-with-lts.Need-with-unit-requires (choose-with-claims t) (choose-with-at t) choose-with.Post
+choose-with-with-unit-requires t c κs = ((search needs, search needs), (search needs, search needs, search needs, search with-open))
 
 choose-with-choose-requires : (t : ℕ) → choose-with-lts.Need-choose-requires (choose-with-claims t) (choose-with-at t) choose-with.Post
-choose-with-choose-requires t c κs =
-    let a = c .before .before .before .before .before .before .before .before .before .before .before in
-    let q = a .pre .1 in
-    let over = c .before .before .before .before .before .before .before .before .passed-over .ensures .1 in
-    let tried = c .before .before .before .before .before .before .before .if1 .left in
-    let joins = c .before .before .before .before .before .before .with .ensures in
-    let least = c .before .before .before .before .full-least .ensures in
-    let made = c .before .child .ensures in (
-      omega (arith, a .pre .0),
-      (
-        q .0,
-        (
-          (q .1 .0 .0, omega (arith, q .1 .0 .1)),
-          (
-            q .1 .1 .0,
-            (
-              least .1 .0,
-              (
-                known-child _ _ _ _ _ _ (q .0) (q .1 .0 .1) (q .1 .1 .0 .0) (q .1 .1 .1 .1 .0 .0) _ over tried _ _ _ _ joins
-                    (q .1 .1 .0 .1) (least .0 .0) (least .0 .1) made,
-                spare-child _ _ _ _ _ _ _ _ _ _ _ (q .1 .1 .1 .1 .0 .1) joins made,
-              ),
-            ),
-          ),
-        ),
-      ),
-    )
+choose-with-choose-requires t c κs = (omega arith, (search choosing-with, search needs))
 
 choose-with-same-length : (t : ℕ) → choose-with-lts.Need-same-length (choose-with-claims t) (choose-with-at t) choose-with.Post
 choose-with-same-length t c = search needs
 
 choose-with-returns-2 : (t : ℕ) → choose-with-lts.Need-returns-2 (choose-with-claims t) (choose-with-at t) choose-with.Post
-choose-with-returns-2 t c =
-    let a = c .before .before .before .before .before .before .before .before .before .before .before .before .before .before in
-    let joins = c .before .before .before .before .before .before .before .before .before .with .ensures in
-    let least = c .before .before .before .before .before .before .before .full-least .ensures in
-    let made = c .before .before .before .before .child .ensures in
-    let r = c .before .before .choose .ensures in (
-      choose-tried _ _ _ _ _ _ _ _ _ _ _ _ (a .pre .1 .1 .1 .1 .1 .1 .1) joins made (r .1 .0) (r .0),
-      (r .1 .0, (r .1 .1 .0, others-trans _ _ _ (least .1 .1) (r .1 .1 .1))),
-    )
+choose-with-returns-2 t c = (search choose-tried, (search needs, search others-trans))
 
 pub +choose+choose-with-spec : {M : Type 1} → statement M
 +choose+choose-with-spec = close μ-choose μ-choose-with (λ t. choose-lts.spec (choose-claims t)
@@ -222,25 +157,12 @@ pub +choose+choose-with-spec : {M : Type 1} → statement M
     (choose-loop-again t)
     (choose-same-length t)
     (choose-returns-3 t))
-    λ t. choose-with-lts.spec (
-      passed-over-reads.Asked,
-      passed-over-reads.Learnt,
-      with-reads.Asked,
-      with-reads.Learnt,
-      full-least-reads.Asked,
-      full-least-reads.Learnt,
-      child-reads.Asked,
-      child-reads.Learnt,
-      choose-below t,
-      choose.Post,
-    )
+    λ t. choose-with-lts.spec (choose-with-claims t)
     (choose-with-at t)
     choose-with.Post
     (choose-with-passed-over-requires t)
     (choose-with-returns t)
-    (choose-with-with-requires t)
-    (choose-with-full-least-requires t)
-    (choose-with-child-requires t)
+    (choose-with-with-unit-requires t)
     (choose-with-choose-requires t)
     (choose-with-same-length t)
     (choose-with-returns-2 t)

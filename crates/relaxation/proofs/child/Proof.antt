@@ -1,5 +1,6 @@
 -- `relaxation::child` meets its contract: each field by what made it.
 -- Assumes nothing.
+use Rattle.relaxation.proofs.ShutLaws.{more-own}
 use mathlib.Core.Path.{refl}
 use borrow.Author.Needs.{needs}
 use Rattle.relaxation.proofs.child.Statement.{statement}
@@ -8,14 +9,11 @@ use Rattle.relaxation.proofs.child.Tie as tie
 price-requires : tie.Need-price-requires
 price-requires c κs = search needs
 
-sub-t11 : tie.Need-sub-t11
-sub-t11 c = search needs
+sub-t10 : tie.Need-sub-t10
+sub-t10 c = search needs
 
-mul-shut-more : tie.Need-mul-shut-more
-mul-shut-more c = search needs
-
-element-copy-out-shut-more : tie.Need-element-copy-out-shut-more
-element-copy-out-shut-more c = search needs
+partners-requires : tie.Need-partners-requires
+partners-requires c κs = search needs
 
 shut-more-requires : tie.Need-shut-more-requires
 shut-more-requires c κs = search needs
@@ -30,7 +28,7 @@ returns : tie.Need-returns
 returns c =
     record {
       out-is = refl;
-      shut = search needs;
+      shut = search more-own;
       room = search needs;
       rest = search needs;
       value = search needs;
@@ -41,9 +39,8 @@ child-spec =
     tie.close
     (tie.spec
     price-requires
-    sub-t11
-    mul-shut-more
-    element-copy-out-shut-more
+    sub-t10
+    partners-requires
     shut-more-requires
     sub-t12
     plus-requires

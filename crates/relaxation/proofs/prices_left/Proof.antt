@@ -1,10 +1,10 @@
--- `relaxation::prices_left` meets its contract: the places so far hold the sums of the units so far.
+-- `relaxation::prices_left` meets its contract: each place has the sum so far.
 -- Assumes nothing.
 use Prim.Native.Nat.{_-_, _≤_}
 use mathlib.Core.Path.{_≡_, refl}
 use lib.ListN.{length}
 use Rattle.sums.specs.NumSet.{has}
-use Rattle.relaxation.specs.Relaxed.{priceIn}
+use Rattle.tables.specs.Tables.{priceIn}
 use Rattle.relaxation.specs.Choosing.{Left}
 use Rattle.relaxation.proofs.LeftLaws.{left-start, left-fits, left-next, left-ended}
 use borrow.Author.Needs.{needs}
@@ -12,25 +12,22 @@ use Rattle.relaxation.proofs.prices_left.Statement.{statement}
 use Rattle.relaxation.proofs.prices_left.Tie as tie
 
 abbrev Inv-loop : tie.InvT-loop
-Inv-loop prices units t out table₀ i₀ table i = (i ≤ units) × (length table ≡ 17) × Left (priceIn prices) t (has out) i table
+Inv-loop tables units t out table₀ i₀ table i = (i ≤ units) × (length table ≡ 17) × Left (priceIn tables) t (has out) i table
 
 abbrev μ-loop : tie.MeasureT-loop
-μ-loop prices units t out table₀ i₀ table i = units - i
+μ-loop tables units t out table₀ i₀ table i = units - i
 
 loop-holds : tie.Need-loop-holds Inv-loop μ-loop
 loop-holds c = (search needs, refl, search left-start)
 
-price-part-requires : tie.Need-price-part-requires Inv-loop μ-loop
-price-part-requires c κs = search needs
+mul-price-added : tie.Need-mul-price-added Inv-loop μ-loop
+mul-price-added c = search needs
 
-mul-t10 : tie.Need-mul-t10 Inv-loop μ-loop
-mul-t10 c = search needs
+array-read-price-added : tie.Need-array-read-price-added Inv-loop μ-loop
+array-read-price-added c = search needs
 
-array-read-t13 : tie.Need-array-read-t13 Inv-loop μ-loop
-array-read-t13 c = search needs
-
-plus-requires : tie.Need-plus-requires Inv-loop μ-loop
-plus-requires c κs = search left-fits
+price-added-requires : tie.Need-price-added-requires Inv-loop μ-loop
+price-added-requires c κs = (search needs, search needs, search left-fits, search needs)
 
 add-table : tie.Need-add-table Inv-loop μ-loop
 add-table c = search needs
@@ -48,13 +45,7 @@ loop-less : tie.Need-loop-less Inv-loop μ-loop
 loop-less c = search needs
 
 loop-again : tie.Need-loop-again Inv-loop μ-loop
-loop-again c =
-    let l = c .before .before .before .loop in (
-      search needs,
-      search needs,
-      left-next _ _ _ _ _ _ _ _ (l .inv .2) (l .inv .1) (c .before .before .loop-test .taken) (search needs) (c .before .price-part .ensures .0)
-          (c .plus .ensures),
-    )
+loop-again c = (search needs, search needs, search left-next)
 
 returns : tie.Need-returns Inv-loop μ-loop
 returns c = search left-ended
@@ -66,10 +57,9 @@ prices-left-spec =
     Inv-loop
     μ-loop
     loop-holds
-    price-part-requires
-    mul-t10
-    array-read-t13
-    plus-requires
+    mul-price-added
+    array-read-price-added
+    price-added-requires
     add-table
     mul-table
     array-write-table

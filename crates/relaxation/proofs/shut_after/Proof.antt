@@ -8,11 +8,8 @@ use Rattle.relaxation.proofs.shut_after.Tie as tie
 has-requires : tie.Need-has-requires
 has-requires c κs = search needs
 
-mul-shut-more : tie.Need-mul-shut-more
-mul-shut-more c = search needs
-
-element-copy-out-shut-more : tie.Need-element-copy-out-shut-more
-element-copy-out-shut-more c = search needs
+partners-requires : tie.Need-partners-requires
+partners-requires c κs = search needs
 
 shut-more-requires : tie.Need-shut-more-requires
 shut-more-requires c κs = search needs
@@ -37,8 +34,7 @@ shut-after-spec =
     tie.close
     (tie.spec
     has-requires
-    mul-shut-more
-    element-copy-out-shut-more
+    partners-requires
     shut-more-requires
     returns
     price-requires

@@ -3,7 +3,7 @@
 use Prim.Native.Nat.{_-_, _≤_}
 use Rattle.sums.specs.NumSet.{has}
 use Rattle.model.specs.Words.{problemOf}
-use Rattle.relaxation.specs.Relaxed.{priceIn}
+use Rattle.tables.specs.Tables.{priceIn}
 use Rattle.relaxation.specs.Choosing.{Shut}
 use Rattle.relaxation.proofs.ShutLaws.{shut-start, shut-ended}
 use borrow.Author.Needs.{needs}
@@ -11,10 +11,10 @@ use Rattle.relaxation.proofs.shut_units.Statement.{statement}
 use Rattle.relaxation.proofs.shut_units.Tie as tie
 
 abbrev Inv-loop : tie.InvT-loop
-Inv-loop words l prices clashes t out units shut₀ i₀ shut i = (i ≤ units) × Shut (problemOf words) (priceIn prices) t (has out) i shut
+Inv-loop words l tables t out units shut₀ i₀ shut i = (i ≤ units) × Shut (problemOf words) (priceIn tables) t (has out) i shut
 
 abbrev μ-loop : tie.MeasureT-loop
-μ-loop words l prices clashes t out units shut₀ i₀ shut i = units - i
+μ-loop words l tables t out units shut₀ i₀ shut i = units - i
 
 loop-holds : tie.Need-loop-holds Inv-loop μ-loop
 loop-holds c = (search needs, search shut-start)

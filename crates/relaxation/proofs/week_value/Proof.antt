@@ -23,8 +23,8 @@ lookup-requires c κs = search needs
 enum-known-found : tie.Need-enum-known-found
 enum-known-found c = search needs
 
-cast-t18 : tie.Need-cast-t18
-cast-t18 c = search needs
+cast-t17 : tie.Need-cast-t17
+cast-t17 c = search needs
 
 same-length-2 : tie.Need-same-length-2
 same-length-2 c = search needs
@@ -60,7 +60,7 @@ week-value-spec =
     value-key-requires
     lookup-requires
     enum-known-found
-    cast-t18
+    cast-t17
     same-length-2
     returns-2
     enum-told

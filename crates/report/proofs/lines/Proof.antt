@@ -2,6 +2,7 @@
 -- Assumes nothing.
 use Prim.Native.Nat.{_-_, _*_, _≤_}
 use mathlib.Core.Path.{_≡_, refl}
+use Rattle.report.specs.Lengths.{LINE, TEXT}
 use Rattle.report.specs.Put.{Put, Listed}
 use Rattle.model.specs.Lines.{linesText}
 use lib.ListN.{length}
@@ -11,7 +12,7 @@ use Rattle.report.proofs.lines.Statement.{statement}
 use Rattle.report.proofs.lines.Tie as tie
 
 abbrev Inv-loop : tie.InvT-loop
-Inv-loop text₀ answers asks u w next₀ k₀ text next k = (k ≤ asks) × (Listed (length answers) asks u w × ((65536 ≤ length text₀) × ((length text ≡ length text₀) × Put text₀ text 0 next (1831 * k) (linesText answers k u w))))
+Inv-loop text₀ answers asks u w next₀ k₀ text next k = (k ≤ asks) × (Listed (length answers) asks u w × ((TEXT ≤ length text₀) × ((length text ≡ length text₀) × Put text₀ text 0 next (LINE * k) (linesText answers k u w))))
 
 abbrev μ-loop : tie.MeasureT-loop
 μ-loop text₀ answers asks u w next₀ k₀ text next k = asks - k

@@ -1,6 +1,5 @@
 -- `report::put_block` meets its contract: by cases of the status.
 -- Assumes nothing.
-use mathlib.Core.Path.{refl}
 use Rattle.report.proofs.LineLaws.{block-plan, block-none, block-best, block-spent}
 use borrow.Author.Needs.{needs}
 use Rattle.report.proofs.put_block.Statement.{statement}
@@ -48,20 +47,14 @@ same-length-3 c = search needs
 returns-3 : tie.Need-returns-3
 returns-3 c = search block-best
 
-slice-aggregate-put-bytes-3 : tie.Need-slice-aggregate-put-bytes-3
-slice-aggregate-put-bytes-3 c = search needs
-
-put-bytes-requires-3 : tie.Need-put-bytes-requires-3
-put-bytes-requires-3 c κs = search needs
-
-put-mark-requires : tie.Need-put-mark-requires
-put-mark-requires c κs = search needs
+put-spent-requires : tie.Need-put-spent-requires
+put-spent-requires c κs = search needs
 
 same-length-4 : tie.Need-same-length-4
 same-length-4 c = search needs
 
 returns-4 : tie.Need-returns-4
-returns-4 c = block-spent _ _ _ _ _ _ _ _ _ _ _ refl (c .before .before .before .before .before .before .before .before .before .before .before .before .before .before .before .pre .1) (c .before .before .before .before .before .before .before .before .before .before .before .if1 .left) (c .before .before .before .before .before .before .before .before .before .before .if2 .left) (c .before .before .before .before .before .before .before .before .before .if3 .left) (c .before .before .before .before .before .before .put-bytes3 .ensures) (c .before .before .put-mark .ensures)
+returns-4 c = search block-spent
 
 pub put-block-spec : {M : Type 1} → statement M
 put-block-spec =
@@ -81,8 +74,6 @@ put-block-spec =
     put-best-requires
     same-length-3
     returns-3
-    slice-aggregate-put-bytes-3
-    put-bytes-requires-3
-    put-mark-requires
+    put-spent-requires
     same-length-4
     returns-4)

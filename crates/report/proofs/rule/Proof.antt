@@ -11,8 +11,8 @@ slice-aggregate-put-bytes c = search needs
 put-bytes-requires : tie.Need-put-bytes-requires
 put-bytes-requires c κs = search needs
 
-wide-requires : tie.Need-wide-requires
-wide-requires c κs = search needs
+widen-requires : tie.Need-widen-requires
+widen-requires c κs = search needs
 
 put-number-requires : tie.Need-put-number-requires
 put-number-requires c κs = search needs
@@ -32,7 +32,7 @@ rule-spec =
     (tie.spec
     slice-aggregate-put-bytes
     put-bytes-requires
-    wide-requires
+    widen-requires
     put-number-requires
     put-byte-requires
     same-length

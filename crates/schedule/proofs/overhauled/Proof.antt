@@ -8,8 +8,8 @@ use Rattle.schedule.proofs.overhauled.Tie as tie
 number-at-requires : tie.Need-number-at-requires
 number-at-requires c κs = search needs
 
-wide-requires : tie.Need-wide-requires
-wide-requires c κs = search needs
+widen-requires : tie.Need-widen-requires
+widen-requires c κs = search needs
 
 duration-requires : tie.Need-duration-requires
 duration-requires c κs = search needs
@@ -34,7 +34,7 @@ overhauled-spec =
     tie.close
     (tie.spec
     number-at-requires
-    wide-requires
+    widen-requires
     duration-requires
     add-if1
     returns

@@ -1,14 +1,12 @@
 -- `search::walk` meets its contract: the root settles it, or the units are placed from the first on.
 -- Assumes nothing.
-use native.Mathlib.Omega.{arith}
-use Rattle.search.proofs.AskLaws.{root-fails, root-opens, finished-place}
-use borrow.Author.Needs.{needs}
+use Rattle.search.proofs.AskLaws.{walk-root, walk-fails, walk-places, walk-placed}
 use borrow.Author.Needs.{needs}
 use Rattle.search.proofs.walk.Statement.{statement}
 use Rattle.search.proofs.walk.Tie as tie
 
 root-requires : tie.Need-root-requires
-root-requires c κs = let a = c .before .before .before .before in (a .pre .0, (a .pre .1 .0, a .pre .1 .1 .0 .small))
+root-requires c κs = search walk-root
 
 enum-told : tie.Need-enum-told
 enum-told c = search needs
@@ -25,29 +23,14 @@ no-rows-requires c κs = search needs
 first-worths-requires : tie.Need-first-worths-requires
 first-worths-requires c κs = search needs
 
+root-visit-requires : tie.Need-root-visit-requires
+root-visit-requires c κs = search needs
+
 place-requires : tie.Need-place-requires
-place-requires c κs =
-    let a = c .before .before .before .before .before .before .before .before .before .before .before .before .before .before in (
-      a .pre .0,
-      (
-        a .pre .1 .0,
-        (
-          root-opens _ _ _ _ _ (a .pre .0) (a .args .budget) _ _ _ (c .before .before .before .before .before .before .before .before .before .root
-              .ensures) _ _ _ _ (c .before .before .before .before .before .before .before .v .given .1) (omega arith)
-              (c .before .before .before .before .before .no-rows .ensures)
-              (c .before .before .before .before .first-worths .ensures) (a .pre .1 .1 .0),
-          a .pre .1 .1 .1,
-        ),
-      ),
-    )
+place-requires c κs = search walk-places
 
 returns : tie.Need-returns
-returns c =
-    let a = c .before .before .before .before .before .before .before .before in (
-      rw (c .dead .ensures) (root-fails _ _ _ _ _ (a .pre .0) _ _ _ _ (c .before .before .before .root .ensures) _
-          (c .before .enum-told .given .1)),
-      a .pre .1 .1 .1,
-    )
+returns c = (search walk-fails, search needs)
 
 same-length : tie.Need-same-length
 same-length c = search needs
@@ -56,11 +39,7 @@ same-length-2 : tie.Need-same-length-2
 same-length-2 c = search needs
 
 returns-2 : tie.Need-returns-2
-returns-2 c = (
-  finished-place _ _ _ _ _ _ _ _ (c .before .before .before .before .place .ensures .0),
-  c .before .before .before .before .place
-      .ensures .1,
-)
+returns-2 c = (search walk-placed, search needs)
 
 pub walk-spec : {M : Type 1} → statement M
 walk-spec =
@@ -72,6 +51,7 @@ walk-spec =
     enum-known-v
     no-rows-requires
     first-worths-requires
+    root-visit-requires
     place-requires
     returns
     same-length

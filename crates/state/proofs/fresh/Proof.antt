@@ -8,11 +8,11 @@ use Rattle.state.proofs.fresh.Tie as tie
 index-requires : tie.Need-index-requires
 index-requires c κs = search needs
 
-add-t8 : tie.Need-add-t8
-add-t8 c = search needs
+add-t9 : tie.Need-add-t9
+add-t9 c = search needs
 
 returns : tie.Need-returns
-returns c = record { nothing = refl; limit = refl; tries = refl; used = refl }
+returns c = record { nothing = refl; limit = refl; tries = refl; budget-is = refl; used = refl }
 
 pub fresh-spec : {M : Type 1} → statement M
-fresh-spec = tie.close (tie.spec index-requires add-t8 returns)
+fresh-spec = tie.close (tie.spec index-requires add-t9 returns)

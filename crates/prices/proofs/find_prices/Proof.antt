@@ -1,0 +1,37 @@
+-- `prices::find_prices` meets its contract: the first table is in range, and that of the rounds.
+-- Assumes nothing.
+use Rattle.memo.proofs.EntryLaws.{others-trans}
+use Rattle.tables.proofs.TableLaws.{first-priced}
+use Rattle.prices.proofs.RangeLaws.{priced-first}
+use borrow.Author.Needs.{needs}
+use Rattle.prices.proofs.find_prices.Statement.{statement}
+use Rattle.prices.proofs.find_prices.Tie as tie
+
+solve-relaxation-requires : tie.Need-solve-relaxation-requires
+solve-relaxation-requires c κs = (search priced-first, search needs)
+
+same-length : tie.Need-same-length
+same-length c = search needs
+
+returns : tie.Need-returns
+returns c = (search first-priced, search needs)
+
+ascend-requires : tie.Need-ascend-requires
+ascend-requires c κs = (search priced-first, search needs, search needs)
+
+same-length-2 : tie.Need-same-length-2
+same-length-2 c = search needs
+
+returns-2 : tie.Need-returns-2
+returns-2 c = (search needs, (search needs, search others-trans))
+
+pub find-prices-spec : {M : Type 1} → statement M
+find-prices-spec =
+    tie.close
+    (tie.spec
+    solve-relaxation-requires
+    same-length
+    returns
+    ascend-requires
+    same-length-2
+    returns-2)

@@ -1,0 +1,32 @@
+-- `search::turn_after` meets its contract: by how the walk came back from the start.
+-- Assumes nothing.
+use Rattle.search.proofs.CallLaws.{turn-spent, turn-shared, turn-free}
+use borrow.Author.Needs.{needs}
+use Rattle.search.proofs.turn_after.Statement.{statement}
+use Rattle.search.proofs.turn_after.Tie as tie
+
+enum-told : tie.Need-enum-told
+enum-told c = search needs
+
+enum-known-w : tie.Need-enum-known-w
+enum-known-w c = search needs
+
+has-requires : tie.Need-has-requires
+has-requires c κs = search needs
+
+shared-requires : tie.Need-shared-requires
+shared-requires c κs = search needs
+
+returns : tie.Need-returns
+returns c = search turn-shared
+
+returns-2 : tie.Need-returns-2
+returns-2 c = search turn-spent
+
+returns-3 : tie.Need-returns-3
+returns-3 c = search turn-free
+
+pub turn-after-spec : {M : Type 1} → statement M
+turn-after-spec =
+    tie.close
+    (tie.spec enum-told enum-known-w has-requires shared-requires returns returns-2 returns-3)

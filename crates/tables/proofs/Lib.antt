@@ -1,0 +1,2 @@
+-- the parts of the table, read and written
+pub mod TableLaws

@@ -1,0 +1,2 @@
+-- the parts of the table
+pub mod Tables

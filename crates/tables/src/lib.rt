@@ -1,0 +1,93 @@
+// What a walk reads and never changes, in one table of words behind one reference: prices for units that are not out, the partners of each unit in
+// excluded pairs, what each unit costs OFF, what overhauls cost from each start, what weeks are worth with nobody out, and all OFF costs and prices
+// together. Each part is reached by an accessor of its own name. Weeks and units count from 0, starts from 1.
+use instance::Euro;
+use model::Layout;
+ghost use mathlib.Core.Path.{_≡_};
+ghost use Prim.Native.Nat.{_<_, _≤_};
+ghost use Rattle.model.specs.Words.{problemOf};
+ghost use Rattle.instance.specs.Filed.{Filed};
+ghost use Rattle.tables.specs.Tables.{MOST_PRICE, priceIn, partnersIn, offIn, excessIn, rootIn, totalIn, Prices, First};
+
+// The words of the table.
+pub const TABLES: usize = 1941;
+// Where the parts after the prices begin.
+pub const PARTNERS: usize = 832;
+
+pub const OFFS: usize = 848;
+
+pub const START_COSTS: usize = 864;
+
+pub const ROOT_VALUES: usize = 1888;
+
+pub const TOTAL: usize = 1940;
+// The highest price.
+pub const MOST_PRICE: u64 = 4194304;
+
+// A word as an amount.
+pub fn amount(word: u32) -> Euro
+    ensures { λ r. ⌜ (r .0 ≡ word) × (r .0 < 4294967296) ⌝ }
+{
+    Euro(word as u64)
+}
+
+// The price of unit i in week t: what it pays in that week unless it is out.
+pub fn price(tables: &[u32; TABLES], t: usize, i: usize) -> Euro
+    requires { ⌜ (t < 52) × (i < 16) × Prices (now tables) ⌝ }
+    ensures { λ r. ⌜ (r .0 ≡ priceIn (now (tables .entry)) t i) × (r .0 ≤ MOST_PRICE) ⌝ }
+{
+    amount(tables[t * 16 + i])
+}
+
+// The units that form an excluded pair with unit i.
+pub fn partners(tables: &[u32; TABLES], i: usize) -> u32
+    requires { ⌜ i < 16 ⌝ }
+    ensures { λ r. ⌜ r ≡ partnersIn (now (tables .entry)) i ⌝ }
+{
+    tables[PARTNERS + i]
+}
+
+// What unit i costs OFF in all weeks.
+pub fn off_cost(tables: &[u32; TABLES], i: usize) -> Euro
+    requires { ⌜ i < 16 ⌝ }
+    ensures { λ r. ⌜ (r .0 ≡ offIn (now (tables .entry)) i) × (r .0 < 4294967296) ⌝ }
+{
+    amount(tables[OFFS + i])
+}
+
+// What the overhaul of unit i costs from a start above its least; the least itself for start 0.
+pub fn excess(tables: &[u32; TABLES], i: usize, start: usize) -> Euro
+    requires { ⌜ (i < 16) × (start < 64) ⌝ }
+    ensures { λ r. ⌜ (r .0 ≡ excessIn (now (tables .entry)) i start) × (r .0 < 4294967296) ⌝ }
+{
+    amount(tables[START_COSTS + i * 64 + start])
+}
+
+// What week t is worth with nobody out.
+pub fn root_value(tables: &[u32; TABLES], t: usize) -> Euro
+    requires { ⌜ t < 52 ⌝ }
+    ensures { λ r. ⌜ (r .0 ≡ rootIn (now (tables .entry)) t) × (r .0 < 4294967296) ⌝ }
+{
+    amount(tables[ROOT_VALUES + t])
+}
+
+// All OFF costs and all prices.
+pub fn total(tables: &[u32; TABLES]) -> Euro
+    ensures { λ r. ⌜ (r .0 ≡ totalIn (now (tables .entry))) × (r .0 < 4294967296) ⌝ }
+{
+    amount(tables[TOTAL])
+}
+
+// The table of a file before prices are found: each unit's partners and OFF cost, and 0 elsewhere.
+pub fn first(words: &[u32], l: Layout) -> [u32; TABLES]
+    requires { ⌜ Filed (now words) l ⌝ }
+    ensures { λ r. ⌜ First (problemOf (now (words .entry))) (problemOf (now (words .entry)) .units) r ⌝ }
+{
+    let units = l.units;
+    let mut tables: [u32; TABLES] = [0; TABLES];
+    for i in 0..units {
+        tables[PARTNERS + i] = instance::partners(words, l, i);
+        tables[OFFS + i] = overhaul::off_weeks(words, l, i).0 as u32;
+    }
+    tables
+}
