@@ -21,6 +21,7 @@ use Rattle.model.specs.Refusal.{askFault, asksVerdict, blockSize, memoryVerdict
 use Rattle.model.specs.Asks.{ceilingAt, budgetAt}
 use Rattle.model.proofs.ReadingLaws.{refused-not}
 use Rattle.instance.specs.Filed.{Filed}
+use Rattle.shape.specs.Shape as shape
 
 -- ---- the words of asks
 
@@ -113,7 +114,7 @@ module _ (ws : List ℕ) (l : Layout) (asks table answers scratch : ℕ) (f : Fi
   unfolding memoryVerdict
   table-long h = rw (lt-leb table 16384 h, and-last-false (leb 64 table))
 
-  module _ (low : 64 ≤ table) (high : table ≤ 16384) (size : ℕ) (is : size ≡ 2 + 2 * l .units + l .weeks) where
+  module _ (low : 64 ≤ table) (high : table ≤ 16384) (size : ℕ) (is : size ≡ shape.blockSize (l .units) (l .weeks)) where
     sized : asks * size ≡ asks * blockSize (problemOf ws)
     unfolding blockSize
     sized = rw (f .units-are, f .weeks-are, is)

@@ -1,6 +1,6 @@
 -- The verdict on a run of any words: the file, then the asks, then lent memory; and what a run has that was not turned away.
 -- Assumes nothing.
-use Prim.Native.Nat.{ℕ, _+_, _*_, _/_, _<_, _≤_}
+use Prim.Native.Nat.{ℕ, _*_, _/_, _<_, _≤_}
 use mathlib.Core.Path.{_≡_, refl, sym, _∙_}
 use mathlib.Core.List.{List}
 use mathlib.Core.Logic.{⊎-elim}
@@ -21,6 +21,7 @@ use Rattle.instance.proofs.FiledLaws.{filed}
 use Rattle.decoder.specs.declared.Verdict.{Verdict}
 use Rattle.decoder.specs.declared.Verdict.the-variants.{Accepted, Refused}
 use Rattle.decoder.specs.Answers.{verdictOf}
+use Rattle.shape.specs.Shape.{blockSize}
 use Rattle.asks.specs.Admitted.{Admitted}
 use Rattle.asks.proofs.RefusalLaws.{asks-passed, table-short, table-long, answers-short}
 
@@ -84,7 +85,7 @@ module _ (ws asks : List ℕ) (table answers scratch : ℕ) (v : Verdict)
   count = length asks / 2
 
   size : ℕ
-  size = 2 + 2 * l .units + l .weeks
+  size = blockSize (l .units) (l .weeks)
 
   memory-passed : memoryVerdict (problemOf ws) count table answers scratch ≡ accepted
   unfolding rest count
@@ -110,10 +111,10 @@ module _ (ws asks : List ℕ) (table answers scratch : ℕ) (v : Verdict)
   unfolding size
   room =
       ⊎-elim
-      (λ (h : answers < count * (2 + 2 * l .units + l .weeks)).
-      absurd (refused-not _ _ (answers-short ws l count table answers scratch is-filed table-least table-most (2 + 2 * l .units + l .weeks) refl h ∙ memory-passed)))
-      (λ (h : count * (2 + 2 * l .units + l .weeks) ≤ answers). h)
-      (lt-or-ge answers (count * (2 + 2 * l .units + l .weeks)))
+      (λ (h : answers < count * blockSize (l .units) (l .weeks)).
+      absurd (refused-not _ _ (answers-short ws l count table answers scratch is-filed table-least table-most (blockSize (l .units) (l .weeks)) refl h ∙ memory-passed)))
+      (λ (h : count * blockSize (l .units) (l .weeks) ≤ answers). h)
+      (lt-or-ge answers (count * blockSize (l .units) (l .weeks)))
 
   -- a run that is not turned away has all that is asked for
   pub run-admitted : Admitted ws l asks table answers

@@ -2,7 +2,7 @@
 use decoder::Verdict;
 use model::Layout;
 ghost use mathlib.Core.Path.{_≡_};
-ghost use Prim.Native.Nat.{_+_, _*_, _^_, _<_, _≤_};
+ghost use Prim.Native.Nat.{_^_, _<_, _≤_};
 ghost use lib.ListN.{length};
 ghost use Rattle.model.specs.Words.{VALUES, problemOf};
 ghost use Rattle.model.specs.Verdict.{firstFault};
@@ -90,14 +90,6 @@ fn scratch_wanted(u: usize) -> usize
     1 << u
 }
 
-// How many words a block has.
-pub fn block_size(l: Layout) -> usize
-    requires { ⌜ (l .units ≤ 16) × (l .weeks ≤ 52) ⌝ }
-    ensures { λ r. ⌜ (r ≡ 2 + 2 * l .units + l .weeks) × (r ≤ 86) ⌝ }
-{
-    2 + 2 * l.units + l.weeks
-}
-
 // Lent memory for some asks, in number order: 13 the table, 14 the answers, 15 the scratch.
 fn memory_verdict(
     words: &[u32],
@@ -117,7 +109,7 @@ fn memory_verdict(
     if 16384 < table {
         return Verdict::Refused(13, 0);
     }
-    if answers < asks * block_size(l) {
+    if answers < asks * shape::block_size(l.units, l.weeks) {
         return Verdict::Refused(14, 0);
     }
     if scratch < scratch_wanted(l.units) {

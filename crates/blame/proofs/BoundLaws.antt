@@ -8,8 +8,8 @@ use native.Mathlib.Nat.{eq-or-lt-of-le, le-of-suc-le-suc}
 use native.Mathlib.Omega.{arith}
 use borrow.Author.Tests.{lt-ltb, le-ltb}
 use Rattle.sums.specs.Logic.{if}
-use Rattle.sums.specs.Sum.{sumTo, added, turned, rowSum}
-use Rattle.sums.specs.NumSet.{NumSet, pick, parts, away}
+use Rattle.sums.specs.Sum.{sumTo, added, transposed, rowSum}
+use Rattle.sums.specs.NumSet.{NumSet, onlyIn, parts, complement}
 use Rattle.sums.proofs.LogicLaws.{and-left, and-right}
 use Rattle.sums.proofs.SumLaws.{sum-mono, sum-same, sum-zero, sum-added, exchange}
 use Rattle.sums.proofs.NumSetLaws.{sum-split}
@@ -27,11 +27,11 @@ use Rattle.blame.specs.Priced.{priced, priceSum, offSum, unitBound, lowe
 
 -- a term with a price, or another: each over its own numbers
 sum-parts : (n : ℕ) (a : NumSet) (f g h : ℕ → ℕ)
-    → sumTo n (parts a (added f g) h) ≡ sumTo n (pick a f) + sumTo n (pick (away a) h) + sumTo n (pick a g)
-unfolding parts pick away added
+    → sumTo n (parts a (added f g) h) ≡ sumTo n (onlyIn a f) + sumTo n (onlyIn (complement a) h) + sumTo n (onlyIn a g)
+unfolding parts onlyIn complement added
 sum-parts n a f g h =
-    sum-same n (parts a (added f g) h) (added (added (pick a f) (pick (away a) h)) (pick a g)) (λ k l. go k (a k))
-    ∙ (sum-added n (added (pick a f) (pick (away a) h)) (pick a g) ∙ ap (λ (z : ℕ). z + sumTo n (pick a g)) (sum-added n (pick a f) (pick (away a) h)))
+    sum-same n (parts a (added f g) h) (added (added (onlyIn a f) (onlyIn (complement a) h)) (onlyIn a g)) (λ k l. go k (a k))
+    ∙ (sum-added n (added (onlyIn a f) (onlyIn (complement a) h)) (onlyIn a g) ∙ ap (λ (z : ℕ). z + sumTo n (onlyIn a g)) (sum-added n (onlyIn a f) (onlyIn (complement a) h)))
   where
     go : (k : ℕ) (b : Bool) → if b (f k + g k) (h k) ≡ if b (f k) 0 + if (not b) (h k) 0 + if b (g k) 0
     go k true = omega arith
@@ -71,27 +71,27 @@ week-plain p u t a = record { below = λ out r compatible more serves. omega (ar
 
 -- prices of the units that are out in week t
 abbrev outPrice : Problem → (ℕ → ℕ → ℕ) → (ℕ → ℕ) → ℕ → ℕ → ℕ
-outPrice p u starts t = pick (outIn p starts t) (u t)
+outPrice p u starts t = onlyIn (outIn p starts t) (u t)
 
 -- OFF costs of the units that are not out in week t
 abbrev offPart : Problem → (ℕ → ℕ) → ℕ → ℕ → ℕ
-offPart p starts t = pick (away (outIn p starts t)) (p .off t)
+offPart p starts t = onlyIn (complement (outIn p starts t)) (p .off t)
 
 module _ (p : Problem) (u : ℕ → ℕ → ℕ) (s : Schedule) where
   -- all units' priced costs are their costs, OFF in the other weeks, and the prices of the weeks
   units-priced : sumTo (p .units) (λ i. priced p u i (s .start i))
       ≡ sumTo (p .units) (upkeepAt p (s .start)) + sumTo (p .weeks) (rowSum (p .units) (offPart p (s .start)))
       + sumTo (p .weeks) (rowSum (p .units) (outPrice p u (s .start)))
-  unfolding priced upkeep upkeepAt rowSum turned added pick away outIn
+  unfolding priced upkeep upkeepAt rowSum transposed added onlyIn complement outIn
   units-priced =
       sum-same (p .units) (λ i. priced p u i (s .start i))
-      (added (added (upkeepAt p (s .start)) (rowSum (p .weeks) (turned (offPart p (s .start))))) (rowSum (p .weeks) (turned (outPrice p u (s .start)))))
-      (λ i h. sum-parts (p .weeks) (inSpan (s .start i) (p .duration i)) (turned (p .maint) i) (turned u i) (turned (p .off) i))
-      ∙ (sum-added (p .units) (added (upkeepAt p (s .start)) (rowSum (p .weeks) (turned (offPart p (s .start)))))
-      (rowSum (p .weeks) (turned (outPrice p u (s .start))))
+      (added (added (upkeepAt p (s .start)) (rowSum (p .weeks) (transposed (offPart p (s .start))))) (rowSum (p .weeks) (transposed (outPrice p u (s .start)))))
+      (λ i h. sum-parts (p .weeks) (inSpan (s .start i) (p .duration i)) (transposed (p .maint) i) (transposed u i) (transposed (p .off) i))
+      ∙ (sum-added (p .units) (added (upkeepAt p (s .start)) (rowSum (p .weeks) (transposed (offPart p (s .start)))))
+      (rowSum (p .weeks) (transposed (outPrice p u (s .start))))
       ∙ omega (
         arith,
-        sum-added (p .units) (upkeepAt p (s .start)) (rowSum (p .weeks) (turned (offPart p (s .start)))),
+        sum-added (p .units) (upkeepAt p (s .start)) (rowSum (p .weeks) (transposed (offPart p (s .start)))),
         exchange (p .weeks) (p .units) (offPart p (s .start)),
         exchange (p .weeks) (p .units) (outPrice p u (s .start)),
       ))
@@ -164,24 +164,24 @@ priced-closed p u b starts least v limit fair le w h = record {
 
 module _ (p : Problem) (starts : ℕ → ℕ) (k : ℕ) (le : k ≤ p .units) where
   -- a week's maintenance is that of the first k units which are out
-  week-upkeep : (t : ℕ) → outCost p t (placed p starts k t) ≡ sumTo k (pick (outIn p starts t) (p .maint t))
-  unfolding outCost placed pick
+  week-upkeep : (t : ℕ) → outCost p t (placed p starts k t) ≡ sumTo k (onlyIn (outIn p starts t) (p .maint t))
+  unfolding outCost placed onlyIn
   week-upkeep t =
-      let e = sum-front k (p .units) (pick (placed p starts k t) (p .maint t)) (pick (outIn p starts t) (p .maint t)) (λ i. 0) le low high in
+      let e = sum-front k (p .units) (onlyIn (placed p starts k t) (p .maint t)) (onlyIn (outIn p starts t) (p .maint t)) (λ i. 0) le low high in
       omega (arith, e, sum-zero k (λ i. 0) (λ i l. refl), sum-zero (p .units) (λ i. 0) (λ i l. refl))
     where
-      low : (i : ℕ) → i < k → pick (placed p starts k t) (p .maint t) i ≡ pick (outIn p starts t) (p .maint t) i
+      low : (i : ℕ) → i < k → onlyIn (placed p starts k t) (p .maint t) i ≡ onlyIn (outIn p starts t) (p .maint t) i
       low i l = rw (lt-ltb i k l)
 
-      high : (i : ℕ) → k ≤ i → i < p .units → pick (placed p starts k t) (p .maint t) i ≡ 0
+      high : (i : ℕ) → k ≤ i → i < p .units → onlyIn (placed p starts k t) (p .maint t) i ≡ 0
       high i l h = rw (le-ltb i k l)
 
   -- the maintenance of all weeks, with the first k units placed, is that of their overhauls
   pub placed-upkeep : sumTo (p .weeks) (λ t. outCost p t (placed p starts k t)) ≡ sumTo k (upkeepAt p starts)
-  unfolding upkeepAt upkeep rowSum turned pick outIn
+  unfolding upkeepAt upkeep rowSum transposed onlyIn outIn
   placed-upkeep =
-      sum-same (p .weeks) (λ t. outCost p t (placed p starts k t)) (rowSum k (λ t. pick (outIn p starts t) (p .maint t))) (λ t l. week-upkeep t)
-      ∙ exchange (p .weeks) k (λ t. pick (outIn p starts t) (p .maint t))
+      sum-same (p .weeks) (λ t. outCost p t (placed p starts k t)) (rowSum k (λ t. onlyIn (outIn p starts t) (p .maint t))) (λ t l. week-upkeep t)
+      ∙ exchange (p .weeks) k (λ t. onlyIn (outIn p starts t) (p .maint t))
 
   -- so what they cost so far is their overhauls and the weeks' cheapest runs
   pub paid-parts : paid p (placed p starts k) ≡ sumTo k (upkeepAt p starts) + sumTo (p .weeks) (λ t. leastCost p t (placed p starts k t))

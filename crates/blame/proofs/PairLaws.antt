@@ -9,7 +9,7 @@ use lib.Dec.{eqb}
 use borrow.Author.Tests.{eqb-true, eq-eqb}
 use Rattle.sums.specs.Sum.{countsOne}
 use Rattle.sums.specs.Range.{firstTo}
-use Rattle.sums.specs.NumSet.{NumSet, pick, with}
+use Rattle.sums.specs.NumSet.{NumSet, onlyIn, with}
 use Rattle.sums.proofs.LogicLaws.{true-false, and-of, and-left, and-right, or-left, or-right, or-at, not-so}
 use Rattle.sums.proofs.RangeLaws.{some-of, first-is}
 use Rattle.sums.proofs.SumLaws.{sum-zero}
@@ -80,9 +80,9 @@ compatible-same p a b same fair c = record {
 
 -- none out
 pub compatible-none : (p : Problem) (a : NumSet) → ((i : ℕ) → a i ≡ false) → Compatible p a
-unfolding headcount pick
+unfolding headcount onlyIn
 compatible-none p a none = record {
-  crewed = let z = sum-zero (p .units) (pick a countsOne) (λ k l. rw (none k)) in omega arith;
+  crewed = let z = sum-zero (p .units) (onlyIn a countsOne) (λ k l. rw (none k)) in omega arith;
   apart = λ n h e. none (p .pairB n);
 }
 

@@ -10,7 +10,7 @@ use native.Mathlib.Omega.{arith}
 use lib.Dec.{ltb, eqb}
 use borrow.Author.Tests.{ltb-true, lt-ltb, le-ltb, eq-eqb, ne-eqb}
 use Rattle.sums.specs.Sum.{sumTo}
-use Rattle.sums.specs.NumSet.{NumSet, away, with}
+use Rattle.sums.specs.NumSet.{NumSet, complement, with}
 use Rattle.sums.proofs.NumSetLaws.{pick-agree}
 use Rattle.sums.proofs.LogicLaws.{and-last-false, and-last-true, or-last-false, not-so, same-test, ltb-total}
 use Rattle.sums.proofs.SumLaws.{sum-mono, sum-same, sum-less}
@@ -65,8 +65,8 @@ module _ (p : Problem) (t : ℕ) (a b : NumSet) (same : (i : ℕ) → i < p .uni
 
   -- the same units out leave a run's cost
   pub run-same : (r : ℕ) → runCost p t a r ≡ runCost p t b r
-  unfolding runCost away
-  run-same r = pick-agree (p .units) (away b) (away a) (lineCost p t r) (λ i h. ap not (same i h))
+  unfolding runCost complement
+  run-same r = pick-agree (p .units) (complement b) (complement a) (lineCost p t r) (λ i h. ap not (same i h))
 
   -- and the cheapest run's
   pub least-same : leastCost p t a ≡ leastCost p t b

@@ -11,10 +11,6 @@ use Rattle.model.specs.Problem.{Problem}
 use Rattle.model.specs.Schedule.{Schedule, Sound, cost}
 use Rattle.model.specs.Order.{Lower}
 
--- what an array holds at a place: a unit's start, or a week's run
-unfoldable pub startIn : List ℕ → ℕ → ℕ
-startIn xs i = getD xs i 0
-
 -- two choices of starts are the same for the units of b
 abbrev pub Agree : Problem → NumSet → (starts other : ℕ → ℕ) → Type 0
 Agree p b starts other = (i : ℕ) → i < p .units → b i ≡ true → other i ≡ starts i

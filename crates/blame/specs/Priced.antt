@@ -6,8 +6,8 @@ use Prim.Native.Nat.{ℕ, _+_, _≤_, _<_}
 use mathlib.Core.Path.{_≡_}
 use mathlib.Core.Bool.{true}
 use Rattle.sums.specs.Logic.{if}
-use Rattle.sums.specs.Sum.{sumTo, added, turned, rowSum}
-use Rattle.sums.specs.NumSet.{NumSet, pick, parts, away}
+use Rattle.sums.specs.Sum.{sumTo, added, transposed, rowSum}
+use Rattle.sums.specs.NumSet.{NumSet, onlyIn, parts, complement}
 use Rattle.model.specs.Problem.{Problem}
 use Rattle.model.specs.Domain.{permitted}
 use Rattle.model.specs.Schedule.{inSpan}
@@ -16,7 +16,7 @@ use Rattle.model.specs.Plan.{Compatible}
 
 -- what unit i's overhaul from start s costs, its prices included, with OFF in all other weeks
 unfoldable pub priced : Problem → (ℕ → ℕ → ℕ) → ℕ → ℕ → ℕ
-priced p u i s = sumTo (p .weeks) (parts (inSpan s (p .duration i)) (added (turned (p .maint) i) (turned u i)) (turned (p .off) i))
+priced p u i s = sumTo (p .weeks) (parts (inSpan s (p .duration i)) (added (transposed (p .maint) i) (transposed u i)) (transposed (p .off) i))
 
 -- all prices
 unfoldable pub priceSum : Problem → (ℕ → ℕ → ℕ) → ℕ
@@ -44,4 +44,4 @@ pub record LeastPriced (p : Problem) (u : ℕ → ℕ → ℕ) (least : ℕ → 
 -- of a is out
 pub record WeekLeast (p : Problem) (u : ℕ → ℕ → ℕ) (t : ℕ) (a : NumSet) (v : ℕ) : Type 0 where
   pub below : (out : NumSet) (r : ℕ) → Compatible p out → ((i : ℕ) → i < p .units → a i ≡ true → out i ≡ true) → Serves p t out r
-      → v ≤ fullCost p t r + sumTo (p .units) (pick (away out) (u t))
+      → v ≤ fullCost p t r + sumTo (p .units) (onlyIn (complement out) (u t))

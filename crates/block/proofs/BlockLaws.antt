@@ -12,12 +12,13 @@ use mir.Val.{Fits}
 use borrow.Author.Tests.{lt-ltb, le-ltb}
 use Rattle.sums.specs.Logic.{if}
 use Rattle.sums.specs.Range.{listTo}
+use Rattle.sums.specs.Table.{entry}
 use Rattle.lent.specs.Splice.{spliced}
 use Rattle.model.specs.declared.Layout.{Layout}
-use Rattle.blame.specs.Closed.{startIn}
 use Rattle.search.specs.declared.Reply.{Reply}
 use Rattle.state.specs.declared.Walked.{Walked}
 use Rattle.state.specs.declared.Walked.the-variants.{Dead, Spent}
+use Rattle.shape.specs.Shape.{runsAt, markAt, blockSize}
 use Rattle.block.specs.Block.{statusOf, markLength, blockWord, Placed, putAt}
 
 -- ---- a status, a mark, a start
@@ -54,8 +55,8 @@ unfolding markLength
 mark-some w m e = rw e
 
 -- a start that an array holds
-pub start-at : (xs : List ℕ) (i : ℕ) → getD xs i 0 ≡ startIn xs i
-unfolding startIn
+pub start-at : (xs : List ℕ) (i : ℕ) → getD xs i 0 ≡ entry xs i
+unfolding entry
 start-at xs i = refl
 
 -- ---- a word of the block
@@ -73,29 +74,30 @@ module _ (u w : ℕ) (r : Reply) (q v : ℕ) where
     word-cost h e = rw (le-ltb q 1 a, lt-ltb q 2 h) e
 
     module _ (b : 2 ≤ q) where
-      -- a start
-      pub word-start : (x : ℕ) → q < 2 + u → x ≡ startIn (r .state .best) (q - 2) → v ≡ if (r .state .found) x 0 → v ≡ blockWord u w r q
-      unfolding blockWord
-      word-start x h is e = rw (le-ltb q 1 a, le-ltb q 2 b, lt-ltb q (2 + u) h, ← is) e
+      module _ (runs : ℕ) (runs-are : runs ≡ runsAt u) where
+        -- a start
+        pub word-start : (x : ℕ) → q < runs → x ≡ entry (r .state .best) (q - 2) → v ≡ if (r .state .found) x 0 → v ≡ blockWord u w r q
+        unfolding blockWord
+        word-start x h is e = rw (le-ltb q 1 a, le-ltb q 2 b, ← runs-are, lt-ltb q runs h, ← is) e
 
-      module _ (d : 2 + u ≤ q) where
-        -- a run
-        pub word-run : q < 2 + u + w → v ≡ if (r .state .found) (getD (r .runs) (q - 2 - u) 0) 0 → v ≡ blockWord u w r q
-        unfolding blockWord startIn
-        word-run h e = rw (le-ltb q 1 a, le-ltb q 2 b, le-ltb q (2 + u) d, lt-ltb q (2 + u + w) h) e
+        module _ (d : runs ≤ q) (mark : ℕ) (mark-is : mark ≡ markAt u w) where
+          -- a run
+          pub word-run : q < mark → v ≡ if (r .state .found) (getD (r .runs) (q - runs) 0) 0 → v ≡ blockWord u w r q
+          unfolding blockWord entry
+          word-run h e = rw (le-ltb q 1 a, le-ltb q 2 b, ← mark-is, ← runs-are, le-ltb q runs d, lt-ltb q mark h) e
 
-        module _ (f : 2 + u + w ≤ q) (n : ℕ) (g : n ≡ markLength (r .walked)) where
-          -- a start of the mark
-          pub word-mark : q - 2 - u - w < n → v ≡ startIn (r .state .mark) (q - 2 - u - w) → v ≡ blockWord u w r q
-          unfolding blockWord
-          word-mark h e =
-              rw (le-ltb q 1 a, le-ltb q 2 b, le-ltb q (2 + u) d, le-ltb q (2 + u + w) f, ← g, lt-ltb (q - 2 - u - w) n h) e
+          module _ (f : mark ≤ q) (n : ℕ) (g : n ≡ markLength (r .walked)) where
+            -- a start of the mark
+            pub word-mark : q - mark < n → v ≡ entry (r .state .mark) (q - mark) → v ≡ blockWord u w r q
+            unfolding blockWord
+            word-mark h e =
+                rw (le-ltb q 1 a, le-ltb q 2 b, ← mark-is, ← runs-are, le-ltb q runs d, le-ltb q mark f, ← g, lt-ltb (q - mark) n h) e
 
-          -- a start that the mark lacks
-          pub word-none : n ≤ q - 2 - u - w → v ≡ 0 → v ≡ blockWord u w r q
-          unfolding blockWord
-          word-none h e =
-              rw (le-ltb q 1 a, le-ltb q 2 b, le-ltb q (2 + u) d, le-ltb q (2 + u + w) f, ← g, le-ltb (q - 2 - u - w) n h) e
+            -- a start that the mark lacks
+            pub word-none : n ≤ q - mark → v ≡ 0 → v ≡ blockWord u w r q
+            unfolding blockWord
+            word-none h e =
+                rw (le-ltb q 1 a, le-ltb q 2 b, ← mark-is, ← runs-are, le-ltb q runs d, le-ltb q mark f, ← g, le-ltb (q - mark) n h) e
 
 -- ---- the words written so far
 
@@ -106,18 +108,18 @@ block-ended f at d xs k n size e h m is = let o : k ≡ size = omega arith in rw
 
 -- ---- the place of a block
 
-module _ (l : Layout) (k words size : ℕ) (placed : Placed l k words) (is : size ≡ 2 + 2 * l .units + l .weeks) where
+module _ (l : Layout) (k words size : ℕ) (placed : Placed l k words) (is : size ≡ blockSize (l .units) (l .weeks)) where
   -- is a number of places
   pub block-fits : size ≤ 86 → Fits w64 (k * size)
   block-fits h = let few : k ≤ 32 = omega (arith, placed .few) in let m = mul-le-mul few h in omega arith
 
   -- there is room behind it
-  pub block-room : k * size + (2 + 2 * l .units + l .weeks) ≤ words
-  block-room = subst (λ (n : ℕ). k * n + (2 + 2 * l .units + l .weeks) ≤ words) (sym is) (placed .room)
+  pub block-room : k * size + blockSize (l .units) (l .weeks) ≤ words
+  block-room = subst (λ (n : ℕ). k * n + blockSize (l .units) (l .weeks) ≤ words) (sym is) (placed .room)
 
   -- the block there
   pub block-put : (r : Reply) (d xs : List ℕ)
-      → xs ≡ spliced (k * size) (listTo (2 + 2 * l .units + l .weeks) (blockWord (l .units) (l .weeks) r)) d → xs ≡ putAt l k r d
+      → xs ≡ spliced (k * size) (listTo (blockSize (l .units) (l .weeks)) (blockWord (l .units) (l .weeks) r)) d → xs ≡ putAt l k r d
   unfolding putAt
   block-put r d xs e =
-      e ∙ ap (λ (n : ℕ). spliced (k * n) (listTo (2 + 2 * l .units + l .weeks) (blockWord (l .units) (l .weeks) r)) d) is
+      e ∙ ap (λ (n : ℕ). spliced (k * n) (listTo (blockSize (l .units) (l .weeks)) (blockWord (l .units) (l .weeks) r)) d) is

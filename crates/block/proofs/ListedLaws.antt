@@ -1,6 +1,6 @@
 -- The words of a reply's block put together: they are the block of the reply's answer.
 -- Assumes nothing.
-use Prim.Native.Nat.{ℕ, zero, suc, _+_, _-_, _*_, _≤_, _<_}
+use Prim.Native.Nat.{ℕ, zero, suc, _+_, _-_, _≤_, _<_}
 use mathlib.Core.Path.{_≡_, refl, sym, _∙_, ap, ap₂}
 use mathlib.Core.Bool.{Bool, true, false}
 use mathlib.Core.List.{List, [], _∷_, _++_, append-nil, append-assoc}
@@ -12,14 +12,15 @@ use borrow.Author.Tests.{lt-ltb, le-ltb}
 use Rattle.sums.specs.Logic.{if}
 use Rattle.sums.specs.Sum.{shifted}
 use Rattle.sums.specs.Range.{listTo}
+use Rattle.sums.specs.Table.{entry}
 use Rattle.sums.proofs.RangeLaws.{list-length}
 use Rattle.model.specs.Problem.{Problem}
 use Rattle.model.specs.Answer.{Correct, zeros, padded, blockOf}
-use Rattle.blame.specs.Closed.{startIn}
 use Rattle.search.specs.declared.Reply.{Reply}
 use Rattle.state.specs.declared.Walked.{Walked}
 use Rattle.state.specs.declared.Walked.the-variants.{Dead, Spent}
 use Rattle.search.specs.Ask.{answerFor, answerOf}
+use Rattle.shape.specs.Shape.{runsAt, markAt, blockSize}
 use Rattle.block.specs.Block.{statusOf, markLength, blockWord}
 
 -- ---- lists of numbers in parts
@@ -48,14 +49,14 @@ list-zeros (suc n) f h =
 
 -- a status, a cost, starts, runs, a mark
 list-parts : (u w : ℕ) (f : ℕ → ℕ)
-    → listTo (2 + 2 * u + w) f ≡ f 0 ∷ f 1 ∷ listTo u (shifted 2 f) ++ listTo w (shifted (2 + u) f) ++ listTo u (shifted (2 + u + w) f)
+    → listTo (blockSize u w) f ≡ f 0 ∷ f 1 ∷ listTo u (shifted 2 f) ++ listTo w (shifted (runsAt u) f) ++ listTo u (shifted (markAt u w) f)
 unfolding listTo
 list-parts u w f =
-    let size : 2 + 2 * u + w ≡ 2 + u + w + u = omega arith in
+    let size : blockSize u w ≡ markAt u w + u = omega arith in
     ap (λ (n : ℕ). listTo n f) size
-    ∙ list-split (2 + u + w) u f
-    ∙ ap (λ (l : List ℕ). l ++ listTo u (shifted (2 + u + w) f)) (list-split (2 + u) w f
-    ∙ ap (λ (l : List ℕ). l ++ listTo w (shifted (2 + u) f)) (list-split 2 u f))
+    ∙ list-split (markAt u w) u f
+    ∙ ap (λ (l : List ℕ). l ++ listTo u (shifted (markAt u w) f)) (list-split (runsAt u) w f
+    ∙ ap (λ (l : List ℕ). l ++ listTo w (shifted (runsAt u) f)) (list-split 2 u f))
 
 -- ---- a part that a status has, or 0
 
@@ -92,33 +93,33 @@ module _ (u w : ℕ) (r : Reply) where
   unfolding blockWord
   word-at-status = refl
 
-  starts-at : (k : ℕ) → k < u → shifted 2 (blockWord u w r) k ≡ if (r .state .found) (startIn (r .state .best) k) 0
+  starts-at : (k : ℕ) → k < u → shifted 2 (blockWord u w r) k ≡ if (r .state .found) (entry (r .state .best) k) 0
   unfolding blockWord shifted
   starts-at k h =
       let e : 2 + k - 2 ≡ k = omega arith in
-      rw (le-ltb (2 + k) 1 (omega arith), le-ltb (2 + k) 2 (omega arith), lt-ltb (2 + k) (2 + u) (omega arith), e)
+      rw (le-ltb (2 + k) 1 (omega arith), le-ltb (2 + k) 2 (omega arith), lt-ltb (2 + k) (runsAt u) (omega arith), e)
 
-  runs-at : (k : ℕ) → k < w → shifted (2 + u) (blockWord u w r) k ≡ if (r .state .found) (startIn (r .runs) k) 0
+  runs-at : (k : ℕ) → k < w → shifted (runsAt u) (blockWord u w r) k ≡ if (r .state .found) (entry (r .runs) k) 0
   unfolding blockWord shifted
   runs-at k h =
-      let e : 2 + u + k - 2 - u ≡ k = omega arith in
+      let e : runsAt u + k - runsAt u ≡ k = omega arith in
       rw (
-        le-ltb (2 + u + k) 1 (omega arith),
-        le-ltb (2 + u + k) 2 (omega arith),
-        le-ltb (2 + u + k) (2 + u) (omega arith),
-        lt-ltb (2 + u + k) (2 + u + w) (omega arith),
+        le-ltb (runsAt u + k) 1 (omega arith),
+        le-ltb (runsAt u + k) 2 (omega arith),
+        le-ltb (runsAt u + k) (runsAt u) (omega arith),
+        lt-ltb (runsAt u + k) (markAt u w) (omega arith),
         e,
       )
 
-  mark-at : (k : ℕ) → shifted (2 + u + w) (blockWord u w r) k ≡ if (ltb k (markLength (r .walked))) (startIn (r .state .mark) k) 0
+  mark-at : (k : ℕ) → shifted (markAt u w) (blockWord u w r) k ≡ if (ltb k (markLength (r .walked))) (entry (r .state .mark) k) 0
   unfolding blockWord shifted
   mark-at k =
-      let e : 2 + u + w + k - 2 - u - w ≡ k = omega arith in
+      let e : markAt u w + k - markAt u w ≡ k = omega arith in
       rw (
-        le-ltb (2 + u + w + k) 1 (omega arith),
-        le-ltb (2 + u + w + k) 2 (omega arith),
-        le-ltb (2 + u + w + k) (2 + u) (omega arith),
-        le-ltb (2 + u + w + k) (2 + u + w) (omega arith),
+        le-ltb (markAt u w + k) 1 (omega arith),
+        le-ltb (markAt u w + k) 2 (omega arith),
+        le-ltb (markAt u w + k) (runsAt u) (omega arith),
+        le-ltb (markAt u w + k) (markAt u w) (omega arith),
         e,
       )
 
@@ -130,26 +131,26 @@ module _ (p : Problem) (limit : ℕ) (best mark runs : List ℕ) (ceiling budget
   unfolding markLength
   mark-within true (Dead b) h = omega arith
   mark-within false (Dead b) h = omega arith
-  mark-within true (Spent m) h = omega (arith, h .0 .prefix .within, list-length m (startIn mark))
-  mark-within false (Spent m) h = omega (arith, h .0 .prefix .within, list-length m (startIn mark))
+  mark-within true (Spent m) h = omega (arith, h .0 .prefix .within, list-length m (entry mark))
+  mark-within false (Spent m) h = omega (arith, h .0 .prefix .within, list-length m (entry mark))
 
-  no-mark : padded (p .units) (listTo 0 (startIn mark)) ≡ zeros (p .units)
+  no-mark : padded (p .units) (listTo 0 (entry mark)) ≡ zeros (p .units)
   unfolding padded listTo
   no-mark = let e : p .units - 0 ≡ p .units = omega arith in ap zeros e
 
   parts-block : (found : Bool) (k : Walked)
-      → (statusOf found k ∷ if found limit 0 ∷ partOf found (p .units) (startIn best) ++ partOf found (p .weeks) (startIn runs)
-      ++ padded (p .units) (listTo (markLength k) (startIn mark))) ≡ blockOf p (answerFor p limit best mark runs found k)
+      → (statusOf found k ∷ if found limit 0 ∷ partOf found (p .units) (entry best) ++ partOf found (p .weeks) (entry runs)
+      ++ padded (p .units) (listTo (markLength k) (entry mark))) ≡ blockOf p (answerFor p limit best mark runs found k)
   unfolding statusOf markLength partOf blockOf
   parts-block true (Dead b) =
-      ap (λ (l : List ℕ). 1 ∷ limit ∷ listTo (p .units) (startIn best) ++ listTo (p .weeks) (startIn runs) ++ l) no-mark
+      ap (λ (l : List ℕ). 1 ∷ limit ∷ listTo (p .units) (entry best) ++ listTo (p .weeks) (entry runs) ++ l) no-mark
   parts-block false (Dead b) = ap (λ (l : List ℕ). 2 ∷ 0 ∷ zeros (p .units) ++ zeros (p .weeks) ++ l) no-mark
   parts-block true (Spent m) = refl
   parts-block false (Spent m) = refl
 
 -- the words of a right reply, in their order, are its answer's block
 pub block-listed : (p : Problem) (ceiling budget : ℕ) (r : Reply) → Correct p ceiling budget (answerOf p r)
-    → listTo (2 + 2 * p .units + p .weeks) (blockWord (p .units) (p .weeks) r) ≡ blockOf p (answerOf p r)
+    → listTo (blockSize (p .units) (p .weeks)) (blockWord (p .units) (p .weeks) r) ≡ blockOf p (answerOf p r)
 block-listed p ceiling budget r h =
     let u = p .units in
     let w = p .weeks in
@@ -159,7 +160,7 @@ block-listed p ceiling budget r h =
       list-parts u w (blockWord u w r),
       word-at-status u w r,
       word-at-cost u w r,
-      part-list (st .found) u (shifted 2 (blockWord u w r)) (startIn (st .best)) (starts-at u w r),
-      part-list (st .found) w (shifted (2 + u) (blockWord u w r)) (startIn (r .runs)) (runs-at u w r),
-      mark-list u (markLength (r .walked)) (shifted (2 + u + w) (blockWord u w r)) (startIn (st .mark)) within (λ k l. mark-at u w r k),
+      part-list (st .found) u (shifted 2 (blockWord u w r)) (entry (st .best)) (starts-at u w r),
+      part-list (st .found) w (shifted (runsAt u) (blockWord u w r)) (entry (r .runs)) (runs-at u w r),
+      mark-list u (markLength (r .walked)) (shifted (markAt u w) (blockWord u w r)) (entry (st .mark)) within (λ k l. mark-at u w r k),
     ) (parts-block p (st .limit .0) (st .best) (st .mark) (r .runs) ceiling budget (st .found) (r .walked))

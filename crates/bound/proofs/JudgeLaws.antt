@@ -7,6 +7,7 @@ use mathlib.Core.List.{List}
 use native.Mathlib.Omega.{arith}
 use lib.ListN.{getD}
 use borrow.Author.Count.{below-more}
+use Rattle.sums.specs.Table.{entry}
 use Rattle.model.specs.declared.Layout.{Layout}
 use Rattle.model.specs.Problem.{Problem}
 use Rattle.model.specs.Domain.{permitted}
@@ -15,7 +16,6 @@ use Rattle.model.proofs.DomainLaws.{permits-ends}
 use Rattle.model.proofs.FileLaws.{fair}
 use Rattle.instance.specs.declared.Euro.{Euro}
 use Rattle.instance.specs.Filed.{Filed}
-use Rattle.blame.specs.Closed.{startIn}
 use Rattle.blame.specs.Placed.{firstUnits}
 use Rattle.tables.specs.Tables.{excessIn, totalIn}
 use Rattle.dual.specs.declared.Node.{Node}
@@ -30,7 +30,7 @@ use Rattle.bound.proofs.TestLaws.{bounds-small}
 -- the node with its start in the bound
 pub with-start : (us : List ℕ) (node r : Node) (m : ℕ) (b : Euro) → m ≡ excessIn us (node .unit) (getD (node .starts) (node .unit) 0)
     → b .0 ≡ node .bound .0 + m → r ≡ withBound node b → r ≡ withStart us node
-unfolding startIn
+unfolding entry
 with-start us node r m b em eb is = is ∙ ap (λ (x : ℕ). withBound node (record { 0 = x })) (eb ∙ ap (λ (x : ℕ). node .bound .0 + x) em)
 
 module _ (ws : List ℕ) (l : Layout) (us rows : List ℕ) (node : Node) (limit : ℕ) (xs memo : List ℕ) (d : TestDue ws l us rows node limit xs memo) where
@@ -42,17 +42,17 @@ module _ (ws : List ℕ) (l : Layout) (us rows : List ℕ) (node : Node) (limit 
 
   -- what its sum asks
   pub start-bounded : StartBounded node
-  unfolding startIn
+  unfolding entry
   start-bounded = record {
     unit = omega (arith, d .due .unit, f .units-are, f .units-most);
     start = omega (
       arith,
-      permits-ends p (node .unit) (startIn (node .starts) (node .unit)) (d .due .permits),
+      permits-ends p (node .unit) (entry (node .starts) (node .unit)) (d .due .permits),
       fair ws (f .passed) .some-weeks (node .unit) (d .due .unit),
       f .weeks-are,
       f .weeks-most,
     );
-    small = bounds-small ws l us f (d .dual) (firstUnits (node .unit)) (startIn (node .starts)) xs (node .bound .0) (d .stands .bounds);
+    small = bounds-small ws l us f (d .dual) (firstUnits (node .unit)) (entry (node .starts)) xs (node .bound .0) (d .stands .bounds);
   }
 
   -- what the tests of the weeks ask
@@ -62,37 +62,37 @@ module _ (ws : List ℕ) (l : Layout) (us rows : List ℕ) (node : Node) (limit 
     dual = d .dual;
     due = d .due;
     standing = d .stands .standing;
-    bounds = bounds-placed p us (startIn (node .starts)) xs (node .unit) (node .bound .0) (d .dual .costs) (d .due .unit) (d .due .permits) (d .stands .bounds);
+    bounds = bounds-placed p us (entry (node .starts)) xs (node .unit) (node .bound .0) (d .dual .costs) (d .due .unit) (d .due .permits) (d .stands .bounds);
     recalls = d .recalls;
   })
 
   -- their verdict is weighed
   pub weighing : (next : Node) (v : Trial) (wanted : ℕ) (ys : List ℕ) → next ≡ withStart us node → wanted ≡ limit + totalIn us
-      → Tested (problemOf ws) us (startIn (next .starts)) (next .unit) wanted ys v → Weighing ws l us node v limit ys
+      → Tested (problemOf ws) us (entry (next .starts)) (next .unit) wanted ys v → Weighing ws l us node v limit ys
   weighing next v wanted ys e ew h = record {
     filed = f;
     dual = d .dual;
     unit = omega (arith, d .due .unit, f .units-are);
     permits = record {
-      each = below-more (λ i. permitted p i (startIn (node .starts) i) ≡ true) (node .unit) (d .stands .standing .permits) (d .due .permits);
+      each = below-more (λ i. permitted p i (entry (node .starts) i) ≡ true) (node .unit) (d .stands .standing .permits) (d .due .permits);
     };
-    tested = subst (λ (w : ℕ). Tested p us (startIn (node .starts)) (node .unit) w ys v) ew
-        (subst (λ (n : Node). Tested p us (startIn (n .starts)) (n .unit) wanted ys v) e h);
+    tested = subst (λ (w : ℕ). Tested p us (entry (node .starts)) (node .unit) w ys v) ew
+        (subst (λ (n : Node). Tested p us (entry (n .starts)) (n .unit) wanted ys v) e h);
     small = d .small;
   }
 
 module _ (ws : List ℕ) (l : Layout) (us : List ℕ) (node : Node) (v : Trial) (limit : ℕ) (xs : List ℕ) (w : Weighing ws l us node v limit xs) where
   -- some units' starts are a dead end
-  pub weighed-blames : (b : ℕ) → v ≡ Fails b → Blames (problemOf ws) (startIn (node .starts)) (node .unit + 1) limit b
-  weighed-blames b e = subst (Tested (problemOf ws) us (startIn (node .starts)) (node .unit) (limit + totalIn us) xs) e (w .tested) .blames limit
+  pub weighed-blames : (b : ℕ) → v ≡ Fails b → Blames (problemOf ws) (entry (node .starts)) (node .unit + 1) limit b
+  weighed-blames b e = subst (Tested (problemOf ws) us (entry (node .starts)) (node .unit) (limit + totalIn us) xs) e (w .tested) .blames limit
 
   module _ (r : Euro) (e : v ≡ Holds r) where
-    held : Tested (problemOf ws) us (startIn (node .starts)) (node .unit) (limit + totalIn us) xs (Holds r)
-    held = subst (Tested (problemOf ws) us (startIn (node .starts)) (node .unit) (limit + totalIn us) xs) e (w .tested)
+    held : Tested (problemOf ws) us (entry (node .starts)) (node .unit) (limit + totalIn us) xs (Holds r)
+    held = subst (Tested (problemOf ws) us (entry (node .starts)) (node .unit) (limit + totalIn us) xs) e (w .tested)
 
     -- the bound lies below what is wanted: one unit more stands
     pub weighed-stands : (wanted : ℕ) → wanted ≡ limit + totalIn us → r .0 < wanted
-        → Stands (problemOf ws) us (startIn (node .starts)) (node .unit + 1) xs (r .0)
+        → Stands (problemOf ws) us (entry (node .starts)) (node .unit + 1) xs (r .0)
     weighed-stands wanted ew less = record { standing = held .1 (omega arith); bounds = held .0 }
 
     -- else the blame is made smaller
@@ -106,7 +106,7 @@ module _ (ws : List ℕ) (l : Layout) (us : List ℕ) (node : Node) (v : Trial) 
     })
 
     pub weighed-closed : (next : Node) (wanted b : ℕ) → next ≡ nextNode node r → wanted ≡ limit + totalIn us → wanted ≤ r .0
-        → Blamed (problemOf ws) us next limit b → Blames (problemOf ws) (startIn (node .starts)) (node .unit + 1) limit b
+        → Blamed (problemOf ws) us next limit b → Blames (problemOf ws) (entry (node .starts)) (node .unit + 1) limit b
     weighed-closed next wanted b en ew le h =
         let g : Blamed (problemOf ws) us (nextNode node r) limit b = subst (λ (n : Node). Blamed (problemOf ws) us n limit b) en h in
         record { closed = g .closed (omega arith); within = g .within }

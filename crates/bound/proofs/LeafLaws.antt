@@ -7,8 +7,10 @@ use native.Mathlib.Omega.{arith}
 use lib.ListN.{getD}
 use Rattle.sums.specs.Sum.{sumTo}
 use Rattle.sums.specs.NumSet.{NumSet, has}
+use Rattle.sums.specs.Table.{entry}
 use Rattle.sums.proofs.SumLaws.{sum-same}
 use Rattle.sums.proofs.LoopLaws.{sum-next}
+use Rattle.sets.specs.Sets.{SETS}
 use Rattle.model.specs.declared.Layout.{Layout}
 use Rattle.model.specs.Problem.{Problem}
 use Rattle.model.specs.Commitment.{NO_RUN, outCost, leastCost}
@@ -16,55 +18,54 @@ use Rattle.model.specs.Words.{problemOf}
 use Rattle.instance.specs.Filed.{Filed}
 use Rattle.commitment.specs.declared.Tally.{Tally}
 use Rattle.commitment.specs.Tally.{Tallies}
-use Rattle.blame.specs.Closed.{startIn}
 use Rattle.blame.specs.Placed.{placed, weekPaid, paid}
-use Rattle.bound.specs.Rows.{tallyOf, Rows}
+use Rattle.bound.specs.Rows.{MOST_OUT, MOST_WEEK, tallyOf, Rows}
 use Rattle.bound.proofs.RowLaws.{out-small}
 
 module _ (ws : List ℕ) (l : Layout) (t word : ℕ) (y : Tally) (f : Filed ws l) (h : t < l .weeks) (e : y ≡ tallyOf word)
     (w : Tallies (problemOf ws) t (tallyOf word)) where
   -- a week: the maintenance of the units out, and a run of the others
   pub week-paid : (v r : ℕ) → v ≡ leastCost (problemOf ws) t (has (y .out)) → r ≡ y .cost .0 + v
-      → r ≡ outCost (problemOf ws) t (has (word % 65536)) + leastCost (problemOf ws) t (has (word % 65536))
+      → r ≡ outCost (problemOf ws) t (has (word % SETS)) + leastCost (problemOf ws) t (has (word % SETS))
   week-paid v r ev er =
-      let a : y .cost .0 ≡ outCost (problemOf ws) t (has (word % 65536)) = ap (λ (x : Tally). x .cost .0) e ∙ w .sum in
-      let b : leastCost (problemOf ws) t (has (y .out)) ≡ leastCost (problemOf ws) t (has (word % 65536))
+      let a : y .cost .0 ≡ outCost (problemOf ws) t (has (word % SETS)) = ap (λ (x : Tally). x .cost .0) e ∙ w .sum in
+      let b : leastCost (problemOf ws) t (has (y .out)) ≡ leastCost (problemOf ws) t (has (word % SETS))
       = ap (λ (x : Tally). leastCost (problemOf ws) t (has (x .out))) e in
       omega arith
 
   -- both are small
-  out-most : y .cost .0 ≤ 4000000
+  out-most : y .cost .0 ≤ MOST_OUT
   out-most =
-      let a : y .cost .0 ≡ outCost (problemOf ws) t (has (word % 65536)) = ap (λ (x : Tally). x .cost .0) e ∙ w .sum in
-      omega (arith, out-small ws l f (has (word % 65536)) t h)
+      let a : y .cost .0 ≡ outCost (problemOf ws) t (has (word % SETS)) = ap (λ (x : Tally). x .cost .0) e ∙ w .sum in
+      omega (arith, out-small ws l f (has (word % SETS)) t h)
 
   -- and fit a word together
   pub paid-fits : (v : ℕ) → v ≤ NO_RUN → y .cost .0 + v < 18446744073709551616
   paid-fits v m = omega (arith, out-most)
 
-  pub paid-most : (v r : ℕ) → v ≤ NO_RUN → r ≡ y .cost .0 + v → r ≤ 272435456
+  pub paid-most : (v r : ℕ) → v ≤ NO_RUN → r ≡ y .cost .0 + v → r ≤ MOST_WEEK
   paid-most v r m e = omega (arith, out-most)
 
 -- what a week costs with the units of its row out
 unfoldable pub rowPaid : Problem → List ℕ → ℕ → ℕ
-rowPaid p rows t = outCost p t (has (getD rows t 0 % 65536)) + leastCost p t (has (getD rows t 0 % 65536))
+rowPaid p rows t = outCost p t (has (getD rows t 0 % SETS)) + leastCost p t (has (getD rows t 0 % SETS))
 
 -- one more
 pub paid-more : (p : Problem) (rows : List ℕ) (t s v r : ℕ) → s ≡ sumTo t (rowPaid p rows)
-    → v ≡ outCost p t (has (getD rows t 0 % 65536)) + leastCost p t (has (getD rows t 0 % 65536)) → r ≡ s + v → r ≡ sumTo (t + 1) (rowPaid p rows)
+    → v ≡ outCost p t (has (getD rows t 0 % SETS)) + leastCost p t (has (getD rows t 0 % SETS)) → r ≡ s + v → r ≡ sumTo (t + 1) (rowPaid p rows)
 unfolding rowPaid
 paid-more p rows t s v r hs hv hr = sum-next (rowPaid p rows) t s v r hs hv hr
 
 -- all of them
 pub paid-ended : (ws : List ℕ) (l : Layout) (rows starts : List ℕ) (t weeks r : ℕ) → Filed ws l
-    → Rows (problemOf ws) (placed (problemOf ws) (startIn starts) (l .units)) rows → weeks ≡ l .weeks → t ≤ weeks → weeks ≤ t
-    → r ≡ sumTo t (rowPaid (problemOf ws) rows) → r ≡ paid (problemOf ws) (placed (problemOf ws) (startIn starts) (l .units))
+    → Rows (problemOf ws) (placed (problemOf ws) (entry starts) (l .units)) rows → weeks ≡ l .weeks → t ≤ weeks → weeks ≤ t
+    → r ≡ sumTo t (rowPaid (problemOf ws) rows) → r ≡ paid (problemOf ws) (placed (problemOf ws) (entry starts) (l .units))
 unfolding paid weekPaid rowPaid
 paid-ended ws l rows starts t weeks r f h e a b is =
     let p = problemOf ws in
     let n : t ≡ p .weeks = omega (arith, f .weeks-are) in
     is ∙ ap (λ (k : ℕ). sumTo k (rowPaid p rows)) n
-    ∙ sum-same (p .weeks) (rowPaid p rows) (weekPaid p (placed p (startIn starts) (l .units)))
+    ∙ sum-same (p .weeks) (rowPaid p rows) (weekPaid p (placed p (entry starts) (l .units)))
     (λ q m. ap (λ (x : NumSet). outCost p q x + leastCost p q x) (fun-ext (h .sets q m)))
 
 -- a row's tally

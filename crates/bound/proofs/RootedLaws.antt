@@ -11,6 +11,7 @@ use borrow.Author.Tests.{le-ltb}
 use Rattle.sums.specs.Sum.{sumTo}
 use Rattle.sums.specs.Range.{listTo}
 use Rattle.sums.specs.NumSet.{NumSet, has}
+use Rattle.sums.specs.Table.{entry}
 use Rattle.sums.proofs.LogicLaws.{true-false}
 use Rattle.sums.proofs.SumLaws.{sum-same}
 use Rattle.sums.proofs.RangeLaws.{list-length, list-at}
@@ -29,9 +30,9 @@ use Rattle.blame.proofs.PairLaws.{compatible-none}
 use Rattle.blame.proofs.ClosedLaws.{demand-closed}
 use Rattle.blame.proofs.PlacedLaws.{placed-none}
 use Rattle.tables.specs.Tables.{START_COSTS, priceIn, leastIn, excessIn, rootIn, totalIn}
-use Rattle.dual.specs.Dual.{worthIn, Bounds}
+use Rattle.dual.specs.Dual.{Bounds}
 use Rattle.dual.proofs.BoundsLaws.{week-none, bounds-closed}
-use Rattle.bound.specs.Tests.{AllStand, AllBlame, Fronts, RootDue}
+use Rattle.bound.specs.Tests.{MOST_LEAST, AllStand, AllBlame, RootValues, RootDue}
 
 -- what all overhauls cost at least
 pub least-next : (us : List ℕ) (i s v r : ℕ) → s ≡ sumTo i (leastIn us) → v ≡ excessIn us i 0 → r ≡ s + v → r ≡ sumTo (i + 1) (leastIn us)
@@ -50,10 +51,10 @@ least-ended ws l us i units r f e a b h =
 pub record RootTo (p : Problem) (us : List ℕ) (n r : ℕ) : Type 0 where
   pub served : (t : ℕ) → t < n → rootIn us t < NO_RUN
   pub sums : r ≡ sumTo (p .units) (leastIn us) + sumTo n (rootIn us)
-  pub small : r ≤ 68719476736 + n * NO_RUN
+  pub small : r ≤ MOST_LEAST + n * NO_RUN
 
 -- no week yet
-pub root-start : (p : Problem) (us : List ℕ) (r : ℕ) → r ≡ sumTo (p .units) (leastIn us) → r ≤ 68719476736 → RootTo p us 0 r
+pub root-start : (p : Problem) (us : List ℕ) (r : ℕ) → r ≡ sumTo (p .units) (leastIn us) → r ≤ MOST_LEAST → RootTo p us 0 r
 unfolding sumTo
 root-start p us r e m = record { served = λ t l. absurd (omega arith); sums = omega arith; small = omega arith }
 
@@ -102,19 +103,19 @@ module _ (ws : List ℕ) (l : Layout) (us : List ℕ) (limit : ℕ) (d : RootDue
     none-out : (starts : ℕ → ℕ) (q : ℕ) → has 0 ≡ placed (problemOf ws) starts 0 q
     none-out starts q = fun-ext (λ i. zero-has i ∙ sym (placed-none (problemOf ws) starts q i))
 
-    -- the bound of nobody, with any worths that are those of the roots
-    root-bounds : (starts : ℕ → ℕ) (xs : List ℕ) → length xs ≡ 52 → ((q : ℕ) → q < problemOf ws .weeks → worthIn xs q ≡ rootIn us q)
+    -- the bound of nobody, with any values that are those of the roots
+    root-bounds : (starts : ℕ → ℕ) (xs : List ℕ) → length xs ≡ 52 → ((q : ℕ) → q < problemOf ws .weeks → entry xs q ≡ rootIn us q)
         → Bounds (problemOf ws) us (firstUnits 0) starts xs r
     unfolding lowerBound unitBound firstUnits
     root-bounds starts xs long same = record {
-      worths = record {
+      values = record {
         long = long;
         least = λ q m. subst (WeekLeast p (priceIn us) q (outOf p (firstUnits 0) starts q)) (sym (same q m))
             (week-none p (priceIn us) q (outOf p (firstUnits 0) starts q) (rootIn us q) (d .dual .roots .each q m .least));
         small = λ q m. omega (arith, same q m, d .dual .roots .each q m .small);
       };
       under =
-          let x = sum-same (p .weeks) (worthIn xs) (rootIn us) same in
+          let x = sum-same (p .weeks) (entry xs) (rootIn us) same in
           let z = sum-same (p .units) (unitBound p (priceIn us) (firstUnits 0) starts (leastIn us)) (leastIn us)
           (λ i m. rw (le-ltb i 0 (omega arith))) in
           let y : sumTo t (rootIn us) ≡ sumTo (p .weeks) (rootIn us) = ap (λ (n : ℕ). sumTo n (rootIn us)) all-weeks in
@@ -123,7 +124,7 @@ module _ (ws : List ℕ) (l : Layout) (us : List ℕ) (limit : ℕ) (d : RootDue
 
     -- it comes to what is wanted: nothing is left
     pub root-blames : (wanted : ℕ) → wanted ≡ limit + totalIn us → wanted ≤ r → AllBlame (problemOf ws) limit 0
-    unfolding firstUnits worthIn
+    unfolding firstUnits entry
     root-blames wanted ew le = record { each = λ starts. record { closed = none-closed starts; within = λ i q. nobody i q } }
       where
         none-closed : (starts : ℕ → ℕ) → Closed (problemOf ws) (has 0) starts limit
@@ -135,7 +136,7 @@ module _ (ws : List ℕ) (l : Layout) (us : List ℕ) (limit : ℕ) (d : RootDue
             (λ q m. list-at 52 (rootIn us) q (omega (arith, f .weeks-are, f .weeks-most)))) (omega arith))
 
     -- else it is the bound before any unit is placed
-    pub root-stands : (xs : List ℕ) → Fronts us xs → AllStand (problemOf ws) us xs r
+    pub root-stands : (xs : List ℕ) → RootValues us xs → AllStand (problemOf ws) us xs r
     root-stands xs fr = record {
       each = λ starts. record {
         standing = record {
@@ -151,7 +152,7 @@ module _ (ws : List ℕ) (l : Layout) (us : List ℕ) (limit : ℕ) (d : RootDue
 -- the places of the weeks so far
 pub record FrontsTo (us : List ℕ) (n : ℕ) (xs : List ℕ) : Type 0 where
   pub long : length xs ≡ 52
-  pub each : (t : ℕ) → t < n → worthIn xs t ≡ rootIn us t
+  pub each : (t : ℕ) → t < n → entry xs t ≡ rootIn us t
 
 -- none yet
 pub fronts-start : (us xs : List ℕ) → length xs ≡ 52 → FrontsTo us 0 xs
@@ -159,12 +160,12 @@ fronts-start us xs long = record { long = long; each = λ t l. absurd (omega ari
 
 -- one more
 pub fronts-next : (us xs : List ℕ) (t v : ℕ) → FrontsTo us t xs → t < 52 → v ≡ rootIn us t → FrontsTo us (t + 1) (set xs t v)
-unfolding worthIn
+unfolding entry
 fronts-next us xs t v h b e = record {
   long = length-set xs t v ∙ h .long;
   each = place-next (λ (q x : ℕ). x ≡ rootIn us q) xs t v (omega (arith, h .long)) e (h .each);
 }
 
 -- all of them
-pub fronts-ended : (us xs : List ℕ) (t : ℕ) → FrontsTo us t xs → 52 ≤ t → Fronts us xs
+pub fronts-ended : (us xs : List ℕ) (t : ℕ) → FrontsTo us t xs → 52 ≤ t → RootValues us xs
 fronts-ended us xs t h b = record { long = h .long; each = λ q m. h .each q (omega arith) }

@@ -16,12 +16,14 @@ use lib.Seq.{getD-set-same, getD-set-other}
 use borrow.Author.Tests.{ne-eqb}
 use Rattle.sums.specs.Sum.{sumTo, countsOne, shifted}
 use Rattle.sums.specs.Range.{someTo, firstTo}
-use Rattle.sums.specs.NumSet.{NumSet, pick, power, numberOf, has}
+use Rattle.sums.specs.NumSet.{NumSet, onlyIn, power, numberOf, has}
+use Rattle.sums.specs.Table.{entry}
 use Rattle.sums.proofs.LogicLaws.{or-last-false, and-last-false, and-last-true, same-test, not-so}
 use Rattle.sums.proofs.SumLaws.{sum-zero, sum-cut}
 use Rattle.sums.proofs.RangeLaws.{none-at, first-is}
 use Rattle.sums.proofs.LoopLaws.{zeros-at}
 use Rattle.sums.proofs.NumSetLaws.{sum-over, number-below, number-own, zero-has}
+use Rattle.sets.specs.Sets.{SETS}
 use Rattle.model.specs.declared.Layout.{Layout}
 use Rattle.model.specs.Problem.{Problem}
 use Rattle.model.specs.Rules.{headcount}
@@ -34,16 +36,15 @@ use Rattle.instance.specs.Filed.{Filed}
 use Rattle.commitment.specs.declared.Tally.{Tally}
 use Rattle.commitment.specs.Tally.{Tallies}
 use Rattle.commitment.proofs.TallyLaws.{tally-none}
-use Rattle.blame.specs.Closed.{startIn}
 use Rattle.blame.specs.Placed.{placed, partly}
 use Rattle.blame.proofs.PlacedLaws.{placed-none, partly-all}
-use Rattle.bound.specs.Rows.{tallyOf, wordOf, Packs, Joins, Rows}
+use Rattle.bound.specs.Rows.{COUNTS, MOST_OUT, tallyOf, wordOf, Packs, RowJoins, Rows}
 use Rattle.bound.specs.Tests.{Due}
 
 -- ---- sets of 16 units
 
 -- a number below 2^16 has no place from 16 on
-pub high-none : (x i : ℕ) → x < 65536 → 16 ≤ i → has x i ≡ false
+pub high-none : (x i : ℕ) → x < SETS → 16 ≤ i → has x i ≡ false
 unfolding has
 high-none x i l h =
     let m : 2 ^ 16 ≤ 2 ^ i = pow-mono h in
@@ -51,14 +52,14 @@ high-none x i l h =
     ap (λ (z : ℕ). eqb (z % 2) 1) (div-eq-of-lt s)
 
 -- a number without a place from 16 on is below 2^16
-pub set-small : (r : ℕ) → r < 4294967296 → ((i : ℕ) → 16 ≤ i → has r i ≡ false) → r < 65536
-unfolding numberOf pick shifted
+pub set-small : (r : ℕ) → r < 4294967296 → ((i : ℕ) → 16 ≤ i → has r i ≡ false) → r < SETS
+unfolding numberOf onlyIn shifted
 set-small r l none =
     let own : numberOf 32 (has r) ≡ r = number-own 32 r (omega arith) in
-    let cut : sumTo 32 (pick (has r) power) ≡ sumTo 16 (pick (has r) power) + sumTo 16 (shifted 16 (pick (has r) power))
-    = sum-cut 16 16 (pick (has r) power) in
-    let zero : sumTo 16 (shifted 16 (pick (has r) power)) ≡ 0
-    = sum-zero 16 (shifted 16 (pick (has r) power)) (λ k h. rw (none (16 + k) (omega arith))) in
+    let cut : sumTo 32 (onlyIn (has r) power) ≡ sumTo 16 (onlyIn (has r) power) + sumTo 16 (shifted 16 (onlyIn (has r) power))
+    = sum-cut 16 16 (onlyIn (has r) power) in
+    let zero : sumTo 16 (shifted 16 (onlyIn (has r) power)) ≡ 0
+    = sum-zero 16 (shifted 16 (onlyIn (has r) power)) (λ k h. rw (none (16 + k) (omega arith))) in
     omega (arith, own, cut, zero, number-below 16 (has r))
 
 -- a set that is not empty has a member
@@ -68,18 +69,18 @@ pub record Member (r : ℕ) : Type 0 where
 
 -- the first of its places
 pub some-member : (r : ℕ) → r < 4294967296 → (r ≡ 0 → ⊥) → Member r
-unfolding numberOf pick
+unfolding numberOf onlyIn
 some-member r l ne = go (someTo 32 (has r)) refl
   where
     go : (b : Bool) → someTo 32 (has r) ≡ b → Member r
     go true e = record { unit = firstTo 32 (has r); holds = first-is 32 (has r) e .holds }
     go false e =
         let own : numberOf 32 (has r) ≡ r = number-own 32 r (omega arith) in
-        let none : sumTo 32 (pick (has r) power) ≡ 0 = sum-zero 32 (pick (has r) power) (λ k h. rw (none-at 32 (has r) e k h)) in
+        let none : sumTo 32 (onlyIn (has r) power) ≡ 0 = sum-zero 32 (onlyIn (has r) power) (λ k h. rw (none-at 32 (has r) e k h)) in
         absurd (ne (omega (arith, own, none)))
 
 -- one unit more of the first 16
-pub joined-small : (x r i : ℕ) → x < 65536 → r < 4294967296 → i < 16 → ((k : ℕ) → has r k ≡ (has x k || eqb k i)) → r < 65536
+pub joined-small : (x r i : ℕ) → x < SETS → r < 4294967296 → i < 16 → ((k : ℕ) → has r k ≡ (has x k || eqb k i)) → r < SETS
 joined-small x r i l b h e =
     set-small r b (λ k m. e k ∙ rw (high-none x k l m, ne-eqb k i (λ q. omega arith)))
 
@@ -89,10 +90,10 @@ joined-small x r i l b h e =
 pub word-tally : (y : Tally) (r : ℕ) → Packs y → r ≡ wordOf y → tallyOf r ≡ y
 unfolding wordOf
 word-tally y r g e =
-    let a : r % 65536 ≡ y .out = omega (arith, g .few, g .many, e) in
-    let q : r / 65536 ≡ y .cost .0 * 32 + y .count = omega (arith, g .few, e) in
-    let b : r / 65536 % 32 ≡ y .count = rw q (omega (arith, g .many)) in
-    let c : r / 2097152 ≡ y .cost .0 = omega (arith, g .few, g .many, e) in
+    let a : r % SETS ≡ y .out = omega (arith, g .few, g .many, e) in
+    let q : r / SETS ≡ y .cost .0 * COUNTS + y .count = omega (arith, g .few, e) in
+    let b : r / SETS % COUNTS ≡ y .count = rw q (omega (arith, g .many)) in
+    let c : r / SETS / COUNTS ≡ y .cost .0 = omega (arith, g .few, g .many, e) in
     rw (a, b, c)
 
 -- how many are out, and what they cost in a week
@@ -106,7 +107,7 @@ module _ (ws : List ℕ) (l : Layout) (f : Filed ws l) (out : NumSet) where
       omega (arith, ranged ws (f .passed) .units-most)
 
   -- no more than 16 times the dearest
-  pub out-small : (t : ℕ) → t < l .weeks → outCost (problemOf ws) t out ≤ 4000000
+  pub out-small : (t : ℕ) → t < l .weeks → outCost (problemOf ws) t out ≤ MOST_OUT
   unfolding outCost
   out-small t h =
       let p = problemOf ws in
@@ -120,13 +121,13 @@ tally-read p t word y e w = subst (Tallies p t) (sym e) w
 
 module _ (ws : List ℕ) (l : Layout) (t i word : ℕ) (y z : Tally) (f : Filed ws l) (h : t < l .weeks) (hi : i < l .units) (e : y ≡ tallyOf word)
     (b : z .out < 4294967296) (w : Tallies (problemOf ws) t z) (j : (k : ℕ) → has (z .out) k ≡ (has (y .out) k || eqb k i)) where
-  read-joined : (k : ℕ) → has (z .out) k ≡ (has (word % 65536) k || eqb k i)
+  read-joined : (k : ℕ) → has (z .out) k ≡ (has (word % SETS) k || eqb k i)
   read-joined k = j k ∙ rw e
 
   -- the tally of a word with one unit more fits into a word
   pub packs-joined : Packs z
   packs-joined = record {
-    few = joined-small (word % 65536) (z .out) i (omega arith) b (omega (arith, f .units-most)) read-joined;
+    few = joined-small (word % SETS) (z .out) i (omega arith) b (omega (arith, f .units-most)) read-joined;
     many = omega (arith, w .many, count-small ws l f (has (z .out)));
     cheap = omega (arith, w .sum, out-small ws l f (has (z .out)) t h);
   }
@@ -136,7 +137,7 @@ module _ (ws : List ℕ) (l : Layout) (t i word : ℕ) (y z : Tally) (f : Filed 
   word-tallies r q = subst (Tallies (problemOf ws) t) (sym (word-tally z r packs-joined q)) w
 
   -- with that unit
-  pub word-joins : (r : ℕ) → r ≡ wordOf z → Joins word i r
+  pub word-joins : (r : ℕ) → r ≡ wordOf z → RowJoins word i r
   word-joins r q = record { sets = λ k. ap (λ (x : Tally). has (x .out) k) (word-tally z r packs-joined q) ∙ read-joined k }
 
 -- ---- rows before any unit is placed
@@ -146,7 +147,7 @@ pub rows-none : (p : Problem) (starts : ℕ → ℕ) (rows : List ℕ) → rows 
 rows-none p starts rows e = record {
   long = ap (λ (xs : List ℕ). length xs) e ∙ length-replicate {A = ℕ} 52 0;
   tallies = λ t l. subst (λ (x : ℕ). Tallies p t (tallyOf x)) (sym (zero t)) (tally-none p t);
-  sets = λ t l i. ap (λ (x : ℕ). has (x % 65536) i) (zero t) ∙ (zero-has i ∙ sym (placed-none p starts t i));
+  sets = λ t l i. ap (λ (x : ℕ). has (x % SETS) i) (zero t) ∙ (zero-has i ∙ sym (placed-none p starts t i));
 }
   where
     zero : (t : ℕ) → getD rows t 0 ≡ 0
@@ -154,7 +155,7 @@ rows-none p starts rows e = record {
 
 -- ---- a unit to be placed
 
-module _ (ws : List ℕ) (l : Layout) (rows starts : List ℕ) (j : ℕ) (f : Filed ws l) (d : Due (problemOf ws) rows (startIn starts) j) where
+module _ (ws : List ℕ) (l : Layout) (rows starts : List ℕ) (j : ℕ) (f : Filed ws l) (d : Due (problemOf ws) rows (entry starts) j) where
   -- it is one of the file's
   pub due-unit : j < l .units
   due-unit = omega (arith, d .unit, f .units-are)
@@ -165,13 +166,13 @@ module _ (ws : List ℕ) (l : Layout) (rows starts : List ℕ) (j : ℕ) (f : Fi
 
   -- its start counts from 1
   pub due-some : 1 ≤ getD starts j 0
-  unfolding startIn
-  due-some = omega (arith, permits-from (problemOf ws) j (startIn starts j) (d .permits), fair ws (f .passed) .from-one j (d .unit))
+  unfolding entry
+  due-some = omega (arith, permits-from (problemOf ws) j (entry starts j) (d .permits), fair ws (f .passed) .from-one j (d .unit))
 
   -- its overhaul ends in the season
   pub due-ends : (weeks : ℕ) → weeks ≡ problemOf ws .duration j → getD starts j 0 - 1 + weeks ≤ l .weeks
-  unfolding startIn
-  due-ends weeks e = omega (arith, due-some, permits-ends (problemOf ws) j (startIn starts j) (d .permits), f .weeks-are)
+  unfolding entry
+  due-ends weeks e = omega (arith, due-some, permits-ends (problemOf ws) j (entry starts j) (d .permits), f .weeks-are)
 
   -- the rows hold the tallies of its weeks
   pub due-tally : (first k weeks : ℕ) → first + weeks ≤ l .weeks → k < weeks → Tallies (problemOf ws) (first + k) (tallyOf (getD rows (first + k) 0))
@@ -184,7 +185,7 @@ pub record RowsTo (p : Problem) (rows : List ℕ) (j first k : ℕ) (next : List
   pub long : length next ≡ 52
   pub tallies : (t : ℕ) → t < p .weeks → Tallies p t (tallyOf (getD next t 0))
   pub sets : (t : ℕ) → t < p .weeks → (i : ℕ)
-      → has (getD next t 0 % 65536) i ≡ (has (getD rows t 0 % 65536) i || (eqb i j && inSpan (first + 1) k t))
+      → has (getD next t 0 % SETS) i ≡ (has (getD rows t 0 % SETS) i || (eqb i j && inSpan (first + 1) k t))
 
 -- none yet
 pub rows-start : (p : Problem) (rows : List ℕ) (starts : ℕ → ℕ) (j first : ℕ) → Due p rows starts j → RowsTo p rows j first 0 rows
@@ -194,12 +195,12 @@ rows-start p rows starts j first d = record {
   sets = λ t l i.
       let x : inSpan (first + 1) 0 t ≡ false = not-so (inSpan (first + 1) 0 t)
       (λ e. omega (arith, span-from (first + 1) 0 t e, span-below (first + 1) 0 t e)) in
-      sym (rw (x, and-last-false (eqb i j)) (or-last-false (has (getD rows t 0 % 65536) i)));
+      sym (rw (x, and-last-false (eqb i j)) (or-last-false (has (getD rows t 0 % SETS) i)));
 }
 
 -- one week more
 pub rows-next : (ws : List ℕ) (l : Layout) (rows next : List ℕ) (j first k weeks r : ℕ) → Filed ws l → RowsTo (problemOf ws) rows j first k next
-    → first + weeks ≤ l .weeks → k < weeks → Tallies (problemOf ws) (first + k) (tallyOf r) → Joins (getD rows (first + k) 0) j r
+    → first + weeks ≤ l .weeks → k < weeks → Tallies (problemOf ws) (first + k) (tallyOf r) → RowJoins (getD rows (first + k) 0) j r
     → RowsTo (problemOf ws) rows j first (k + 1) (set next (first + k) r)
 rows-next ws l rows next j first k weeks r f h end b w g = record {
   long = length-set next (first + k) r ∙ h .long;
@@ -226,7 +227,7 @@ rows-next ws l rows next j first k weeks r f h end b w g = record {
     tallies t d (no e) = subst (λ (x : ℕ). Tallies p t (tallyOf x)) (sym (other t e)) (h .tallies t d)
 
     sets : (t : ℕ) → t < p .weeks → (i : ℕ) → Dec (t ≡ first + k)
-        → has (getD (set next (first + k) r) t 0 % 65536) i ≡ (has (getD rows t 0 % 65536) i || (eqb i j && inSpan (first + 1) (k + 1) t))
+        → has (getD (set next (first + k) r) t 0 % SETS) i ≡ (has (getD rows t 0 % SETS) i || (eqb i j && inSpan (first + 1) (k + 1) t))
     sets t d i (yes e) =
         let x : inSpan (first + 1) (k + 1) (first + k) ≡ true = span-of (first + 1) (k + 1) (first + k) (omega arith) (omega arith) in
         rw (e, same, x, and-last-true (eqb i j)) (g .sets i)
@@ -238,10 +239,10 @@ rows-next ws l rows next j first k weeks r f h end b w g = record {
         rw (other t e, x) (h .sets t d i)
 
 -- all weeks of its overhaul: one unit more is placed
-pub rows-ended : (ws : List ℕ) (l : Layout) (rows starts next : List ℕ) (j k weeks : ℕ) → Filed ws l → Due (problemOf ws) rows (startIn starts) j
+pub rows-ended : (ws : List ℕ) (l : Layout) (rows starts next : List ℕ) (j k weeks : ℕ) → Filed ws l → Due (problemOf ws) rows (entry starts) j
     → weeks ≡ problemOf ws .duration j → k ≤ weeks → weeks ≤ k → RowsTo (problemOf ws) rows j (getD starts j 0 - 1) k next
-    → Rows (problemOf ws) (placed (problemOf ws) (startIn starts) (j + 1)) next
-unfolding partly startIn
+    → Rows (problemOf ws) (placed (problemOf ws) (entry starts) (j + 1)) next
+unfolding partly entry
 rows-ended ws l rows starts next j k weeks f d e a b h = record {
   long = h .long;
   tallies = h .tallies;
@@ -249,5 +250,5 @@ rows-ended ws l rows starts next j k weeks f d e a b h = record {
       let p = problemOf ws in
       let q : k ≡ p .duration j = omega arith in
       let s : getD starts j 0 - 1 + 1 ≡ getD starts j 0 = omega (arith, due-some ws l rows starts j f d) in
-      h .sets t m i ∙ rw (d .tallied .sets t m i, q, s) (partly-all p (startIn starts) j t i);
+      h .sets t m i ∙ rw (d .tallied .sets t m i, q, s) (partly-all p (entry starts) j t i);
 }

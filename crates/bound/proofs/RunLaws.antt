@@ -8,6 +8,7 @@ use lib.ListN.{length, getD, set}
 use borrow.Author.Tests.{lt-ltb}
 use Rattle.sums.specs.NumSet.{NumSet, has}
 use Rattle.sums.proofs.LoopLaws.{place-next}
+use Rattle.sets.specs.Sets.{SETS}
 use Rattle.model.specs.declared.Layout.{Layout}
 use Rattle.model.specs.Problem.{Problem}
 use Rattle.model.specs.Schedule.{outIn}
@@ -15,8 +16,8 @@ use Rattle.model.specs.Commitment.{runCost, Pick, nothing, picked, IsPick, Serv
 use Rattle.model.specs.Words.{problemOf}
 use Rattle.model.proofs.CommitmentLaws.{cheapest-right, cheapest-picked, none-picked, fewer-out}
 use Rattle.instance.specs.Filed.{Filed}
-use Rattle.commitment.specs.declared.Found.{Found}
-use Rattle.commitment.specs.declared.Found.the-variants.{Nothing, Run}
+use Rattle.commitment.specs.declared.BestRun.{BestRun}
+use Rattle.commitment.specs.declared.BestRun.the-variants.{Nothing, Run}
 use Rattle.commitment.specs.Answers.{Answers}
 use Rattle.instance.specs.declared.Euro.{Euro}
 use Rattle.blame.specs.Placed.{placed, runOf, runAt}
@@ -26,7 +27,7 @@ use Rattle.bound.specs.Tests.{Due, Permits, RunsOf}
 
 -- ---- the answer for a week
 
-module _ (p : Problem) (t out : ℕ) (found : Found) (a : Answers p t (has out) found) where
+module _ (p : Problem) (t out : ℕ) (found : BestRun) (a : Answers p t (has out) found) where
   -- no run
   pub run-none : found ≡ Nothing → 0 ≡ runOf (cheapestRun p t (has out))
   unfolding runOf
@@ -76,7 +77,7 @@ all-placed p rows starts j units n h a b e = let q : j ≡ n = omega arith in su
 
 -- the first n places of the table hold the cheapest runs of their weeks, with the units of the rows out
 pub record RunsTo (p : Problem) (rows : List ℕ) (n : ℕ) (table : List ℕ) : Type 0 where
-  pub each : (t : ℕ) → t < n → getD table t 0 ≡ runOf (cheapestRun p t (has (getD rows t 0 % 65536)))
+  pub each : (t : ℕ) → t < n → getD table t 0 ≡ runOf (cheapestRun p t (has (getD rows t 0 % SETS)))
 
 -- none yet
 pub runs-start : (p : Problem) (rows table : List ℕ) → RunsTo p rows 0 table
@@ -84,9 +85,9 @@ runs-start p rows table = record { each = λ t l. absurd (omega arith) }
 
 -- one week more
 pub runs-next : (p : Problem) (rows table : List ℕ) (t weeks r : ℕ) → RunsTo p rows t table → length table ≡ 52 → t < weeks → weeks ≤ 52
-    → r ≡ runOf (cheapestRun p t (has (getD rows t 0 % 65536))) → RunsTo p rows (t + 1) (set table t r)
+    → r ≡ runOf (cheapestRun p t (has (getD rows t 0 % SETS))) → RunsTo p rows (t + 1) (set table t r)
 runs-next p rows table t weeks r h long b few e = record {
-  each = place-next (λ (q x : ℕ). x ≡ runOf (cheapestRun p q (has (getD rows q 0 % 65536)))) table t r (omega arith) e (h .each);
+  each = place-next (λ (q x : ℕ). x ≡ runOf (cheapestRun p q (has (getD rows q 0 % SETS)))) table t r (omega arith) e (h .each);
 }
 
 -- all of them
@@ -98,7 +99,7 @@ runs-ended ws l rows table starts t weeks f g h e b = record {
   each = λ q m.
       let d : q < t = omega (arith, f .weeks-are) in
       h .each q d
-      ∙ ap runOf (run-same (problemOf ws) q (has (getD rows q 0 % 65536)) (outIn (problemOf ws) starts q) (λ i k. g .sets q m i ∙ out q i k));
+      ∙ ap runOf (run-same (problemOf ws) q (has (getD rows q 0 % SETS)) (outIn (problemOf ws) starts q) (λ i k. g .sets q m i ∙ out q i k));
 }
   where
     out : (q i : ℕ) → i < problemOf ws .units → placed (problemOf ws) starts (l .units) q i ≡ outIn (problemOf ws) starts q i

@@ -12,10 +12,12 @@ use lib.ListN.{length, getD, set}
 use borrow.Author.Count.{below-more}
 use borrow.Author.Tests.{ltb-true, eqb-true, lt-ltb}
 use Rattle.sums.specs.Logic.{if}
-use Rattle.sums.specs.Sum.{added, turned}
+use Rattle.sums.specs.Sum.{added, transposed}
 use Rattle.sums.specs.NumSet.{NumSet, parts, has, with}
+use Rattle.sums.specs.Table.{entry}
 use Rattle.sums.proofs.LogicLaws.{and-of, and-left, and-right}
 use Rattle.sums.proofs.SumLaws.{sum-at-most}
+use Rattle.sets.specs.Sets.{SETS}
 use Rattle.model.specs.declared.Layout.{Layout}
 use Rattle.model.specs.Problem.{Problem}
 use Rattle.model.specs.Domain.{permitted}
@@ -27,21 +29,20 @@ use Rattle.model.proofs.DomainLaws.{permits-from, permits-ends, span-of}
 use Rattle.model.proofs.FileLaws.{ranged, fair}
 use Rattle.instance.specs.declared.Euro.{Euro}
 use Rattle.instance.specs.Filed.{Filed}
-use Rattle.blame.specs.Closed.{startIn}
 use Rattle.blame.specs.Placed.{firstUnits, outOf, placed, partly, Standing}
 use Rattle.blame.specs.Priced.{priced, unitBound, lowerBound}
 use Rattle.blame.proofs.PlacedLaws.{partly-none, partly-all, partly-here, partly-else}
 use Rattle.tables.specs.Tables.{MOST_PRICE, priceIn, leastIn}
 use Rattle.tables.proofs.TableLaws.{price-most}
-use Rattle.relaxation.specs.Relaxed.{WeekAt, Recalls}
+use Rattle.relaxation.specs.Relaxed.{WeekAt, MemoTrue}
 use Rattle.dual.specs.declared.Node.{Node}
 use Rattle.dual.specs.Blame.{withBound}
-use Rattle.dual.specs.Dual.{MOST_OVERHAUL, worthIn, Dual, Bounds}
+use Rattle.dual.specs.Dual.{MOST_OVERHAUL, Dual, Bounds}
 use Rattle.dual.proofs.BoundsLaws.{week-more, bounds-week}
 use Rattle.bound.specs.declared.Trial.{Trial}
 use Rattle.bound.specs.declared.Trial.the-variants.{Holds, Fails}
 use Rattle.bound.specs.Tests.{Due, WeekDue, Shuts, WeekShuts, WeekHolds, WeekTested, TestedTo, WeeksTested, Tested}
-use Rattle.bound.specs.Tests.{StartPermitted, OverhaulWeeks, StartDue, WeeksDue}
+use Rattle.bound.specs.Tests.{MOST_BOUND, StartPermitted, OverhaulWeeks, StartDue, WeeksDue}
 
 -- ---- what a bound comes to at most
 
@@ -51,9 +52,9 @@ module _ (ws : List ℕ) (l : Layout) (us : List ℕ) (f : Filed ws l) (d : Dual
 
   -- an overhaul at prices, from any start
   priced-small : (i s : ℕ) → i < prob .units → priced prob (priceIn us) i s ≤ MOST_OVERHAUL
-  unfolding priced parts added turned
+  unfolding priced parts added transposed
   priced-small i s h =
-      let terms = parts (inSpan s (prob .duration i)) (added (turned (prob .maint) i) (turned (priceIn us) i)) (turned (prob .off) i) in
+      let terms = parts (inSpan s (prob .duration i)) (added (transposed (prob .maint) i) (transposed (priceIn us) i)) (transposed (prob .off) i) in
       let b = sum-at-most (prob .weeks) 4444304 terms (λ t b. week t b (inSpan s (prob .duration i) t)) in
       omega (arith, b, mul-le-mul-right 4444304 (ranged ws (f .passed) .weeks-most))
     where
@@ -72,12 +73,12 @@ module _ (ws : List ℕ) (l : Layout) (us : List ℕ) (f : Filed ws l) (d : Dual
       go false = d .costs .small i h
 
   -- all units and weeks
-  pub bounds-small : (b : NumSet) (starts : ℕ → ℕ) (xs : List ℕ) (sum : ℕ) → Bounds prob us b starts xs sum → sum ≤ 18253611008
+  pub bounds-small : (b : NumSet) (starts : ℕ → ℕ) (xs : List ℕ) (sum : ℕ) → Bounds prob us b starts xs sum → sum ≤ MOST_BOUND
   unfolding lowerBound
   bounds-small b starts xs sum h =
       let g = ranged ws (f .passed) in
       let a = sum-at-most (prob .units) MOST_OVERHAUL (unitBound prob (priceIn us) b starts (leastIn us)) (unit-small b starts) in
-      let c = sum-at-most (prob .weeks) NO_RUN (worthIn xs) (h .worths .small) in
+      let c = sum-at-most (prob .weeks) NO_RUN (entry xs) (h .values .small) in
       omega (arith, h .under, a, c, mul-le-mul-right MOST_OVERHAUL (g .units-most), mul-le-mul-right NO_RUN (g .weeks-most))
 
 -- ---- the weeks of an overhaul
@@ -94,18 +95,18 @@ module _ (ws : List ℕ) (l : Layout) (node : Node) (f : Filed ws l) (h : StartP
 
   -- the start counts from 1
   pub permitted-some : 1 ≤ getD (node .starts) (node .unit) 0
-  unfolding startIn
+  unfolding entry
   permitted-some =
-      omega (arith, permits-from (problemOf ws) (node .unit) (startIn (node .starts) (node .unit)) (h .permits), fair ws (f .passed) .from-one (node .unit) (h .unit))
+      omega (arith, permits-from (problemOf ws) (node .unit) (entry (node .starts) (node .unit)) (h .permits), fair ws (f .passed) .from-one (node .unit) (h .unit))
 
   -- its weeks lie in the season
   pub weeks-of : (weeks : ℕ) → weeks ≡ problemOf ws .duration (node .unit)
       → OverhaulWeeks (problemOf ws) node (getD (node .starts) (node .unit) 0 - 1) (getD (node .starts) (node .unit) 0 - 1 + weeks)
-  unfolding startIn
+  unfolding entry
   weeks-of weeks e = record {
     start = omega (arith, permitted-some);
     last = ap (λ (x : ℕ). getD (node .starts) (node .unit) 0 - 1 + x) e;
-    season = omega (arith, permitted-some, permits-ends (problemOf ws) (node .unit) (startIn (node .starts) (node .unit)) (h .permits));
+    season = omega (arith, permitted-some, permits-ends (problemOf ws) (node .unit) (entry (node .starts) (node .unit)) (h .permits));
   }
 
   -- so their end fits a word
@@ -120,7 +121,7 @@ due-permitted ws l us rows node xs memo d = record { unit = d .due .unit; permit
 -- no week yet
 pub tested-start : (ws : List ℕ) (l : Layout) (us rows : List ℕ) (node : Node) (xs memo : List ℕ) (first end : ℕ)
     → StartDue ws l us rows node xs memo → OverhaulWeeks (problemOf ws) node first end
-    → TestedTo (problemOf ws) us (startIn (node .starts)) (node .unit) first xs (node .bound .0)
+    → TestedTo (problemOf ws) us (entry (node .starts)) (node .unit) first xs (node .bound .0)
 tested-start ws l us rows node xs memo first end d w = record {
   compatible = λ t m. subst (Compatible p) (same t) (d .standing .compatible t m);
   served = λ t m. subst (λ (a : NumSet). fullLeast p t a < NO_RUN) (same t) (d .standing .served t m);
@@ -130,18 +131,18 @@ tested-start ws l us rows node xs memo first end d w = record {
     p : Problem
     p = problemOf ws
 
-    none : first + 1 - startIn (node .starts) (node .unit) ≡ 0
+    none : first + 1 - entry (node .starts) (node .unit) ≡ 0
     none = omega (arith, w .start)
 
-    same : (t : ℕ) → placed (problemOf ws) (startIn (node .starts)) (node .unit) t
-        ≡ partly (problemOf ws) (startIn (node .starts)) (node .unit) (first + 1 - startIn (node .starts) (node .unit)) t
+    same : (t : ℕ) → placed (problemOf ws) (entry (node .starts)) (node .unit) t
+        ≡ partly (problemOf ws) (entry (node .starts)) (node .unit) (first + 1 - entry (node .starts) (node .unit)) t
     same t =
-        sym (ap (λ (n : ℕ). partly p (startIn (node .starts)) (node .unit) n t) none ∙ fun-ext (partly-none p (startIn (node .starts)) (node .unit) t))
+        sym (ap (λ (n : ℕ). partly p (entry (node .starts)) (node .unit) n t) none ∙ fun-ext (partly-none p (entry (node .starts)) (node .unit) t))
 
 -- the next week is tested, at the bound so far
 pub weeks-due : (ws : List ℕ) (l : Layout) (us rows : List ℕ) (node next : Node) (xs memo : List ℕ) (first end t : ℕ) (ys memo′ : List ℕ) (r : Euro)
     → StartDue ws l us rows node xs memo → OverhaulWeeks (problemOf ws) node first end → first ≤ t → t < end
-    → TestedTo (problemOf ws) us (startIn (node .starts)) (node .unit) t ys (r .0) → Recalls (problemOf ws) (priceIn us) memo′
+    → TestedTo (problemOf ws) us (entry (node .starts)) (node .unit) t ys (r .0) → MemoTrue (problemOf ws) (priceIn us) memo′
     → next ≡ withBound node r → WeeksDue ws l us rows next t ys memo′
 weeks-due ws l us rows node next xs memo first end t ys memo′ r d w from more tested recalls e =
     subst (λ (n : Node). WeeksDue ws l us rows n t ys memo′) (sym e) (record {
@@ -173,12 +174,12 @@ tested-reached p us starts j t xs r wanted h le = (h .bounds, λ less. absurd (o
 -- all weeks: one unit more stands
 pub tested-ended : (ws : List ℕ) (l : Layout) (us rows : List ℕ) (node : Node) (xs memo : List ℕ) (first end t wanted : ℕ) (ys : List ℕ) (r : Euro)
     → StartDue ws l us rows node xs memo → OverhaulWeeks (problemOf ws) node first end → t ≤ end → end ≤ t
-    → TestedTo (problemOf ws) us (startIn (node .starts)) (node .unit) t ys (r .0)
-    → Tested (problemOf ws) us (startIn (node .starts)) (node .unit) wanted ys (Holds r)
+    → TestedTo (problemOf ws) us (entry (node .starts)) (node .unit) t ys (r .0)
+    → Tested (problemOf ws) us (entry (node .starts)) (node .unit) wanted ys (Holds r)
 tested-ended ws l us rows node xs memo first end t wanted ys r d w a b h = (
   h .bounds,
   λ less. record {
-    permits = below-more (λ i. permitted p i (startIn (node .starts) i) ≡ true) (node .unit) (d .standing .permits) (d .due .permits);
+    permits = below-more (λ i. permitted p i (entry (node .starts) i) ≡ true) (node .unit) (d .standing .permits) (d .due .permits);
     compatible = λ q m. subst (Compatible p) (all q) (h .compatible q m);
     served = λ q m. subst (λ (x : NumSet). fullLeast p q x < NO_RUN) (all q) (h .served q m);
   },
@@ -187,25 +188,25 @@ tested-ended ws l us rows node xs memo first end t wanted ys r d w a b h = (
     p : Problem
     p = problemOf ws
 
-    whole : t + 1 - startIn (node .starts) (node .unit) ≡ problemOf ws .duration (node .unit)
+    whole : t + 1 - entry (node .starts) (node .unit) ≡ problemOf ws .duration (node .unit)
     whole = omega (arith, w .start, w .last)
 
-    all : (q : ℕ) → partly (problemOf ws) (startIn (node .starts)) (node .unit) (t + 1 - startIn (node .starts) (node .unit)) q
-        ≡ placed (problemOf ws) (startIn (node .starts)) (node .unit + 1) q
+    all : (q : ℕ) → partly (problemOf ws) (entry (node .starts)) (node .unit) (t + 1 - entry (node .starts) (node .unit)) q
+        ≡ placed (problemOf ws) (entry (node .starts)) (node .unit + 1) q
     all q =
-        ap (λ (n : ℕ). partly p (startIn (node .starts)) (node .unit) n q) whole ∙ fun-ext (partly-all p (startIn (node .starts)) (node .unit) q)
+        ap (λ (n : ℕ). partly p (entry (node .starts)) (node .unit) n q) whole ∙ fun-ext (partly-all p (entry (node .starts)) (node .unit) q)
 
 -- the verdict of a week, taken over
 module _ (p : Problem) (us : List ℕ) (node next : Node) (r₀ : Euro) (t : ℕ) (xs : List ℕ) (v : Trial) (is : next ≡ withBound node r₀)
-    (h : WeeksTested p us (startIn (next .starts)) (next .unit) t xs v) where
-  own : WeeksTested p us (startIn (node .starts)) (node .unit) t xs v
-  own = subst (λ (n : Node). WeeksTested p us (startIn (n .starts)) (n .unit) t xs v) is h
+    (h : WeeksTested p us (entry (next .starts)) (next .unit) t xs v) where
+  own : WeeksTested p us (entry (node .starts)) (node .unit) t xs v
+  own = subst (λ (n : Node). WeeksTested p us (entry (n .starts)) (n .unit) t xs v) is h
 
-  pub tested-shut : (wanted b : ℕ) → v ≡ Fails b → Tested p us (startIn (node .starts)) (node .unit) wanted xs (Fails b)
-  tested-shut wanted b e = subst (WeeksTested p us (startIn (node .starts)) (node .unit) t xs) e own
+  pub tested-shut : (wanted b : ℕ) → v ≡ Fails b → Tested p us (entry (node .starts)) (node .unit) wanted xs (Fails b)
+  tested-shut wanted b e = subst (WeeksTested p us (entry (node .starts)) (node .unit) t xs) e own
 
-  pub tested-more : (r : Euro) → v ≡ Holds r → TestedTo p us (startIn (node .starts)) (node .unit) (t + 1) xs (r .0)
-  tested-more r e = subst (WeeksTested p us (startIn (node .starts)) (node .unit) t xs) e own
+  pub tested-more : (r : Euro) → v ≡ Holds r → TestedTo p us (entry (node .starts)) (node .unit) (t + 1) xs (r .0)
+  tested-more r e = subst (WeeksTested p us (entry (node .starts)) (node .unit) t xs) e own
 
 -- ---- one week
 
@@ -214,7 +215,7 @@ module _ (ws : List ℕ) (l : Layout) (us rows : List ℕ) (node : Node) (t : �
   p = problemOf ws
 
   abbrev starts : ℕ → ℕ
-  starts = startIn (node .starts)
+  starts = entry (node .starts)
 
   abbrev j : ℕ
   j = node .unit
@@ -233,19 +234,19 @@ module _ (ws : List ℕ) (l : Layout) (us rows : List ℕ) (node : Node) (t : �
   pub week-unit : node .unit < l .units
   week-unit = omega (arith, d .due .unit, f .units-are)
 
-  -- its worth has a place among 52
+  -- its value has a place among 52
   pub week-in : t < 52
   week-in = omega (arith, d .season, f .weeks-most)
 
   pub week-long : length xs ≡ 52
-  week-long = d .tested .bounds .worths .long
+  week-long = d .tested .bounds .values .long
 
   -- and the bound is small
-  pub week-bound : node .bound .0 ≤ 1099511627776
-  week-bound = omega (arith, bounds-small ws l us f (d .dual) (firstUnits (j + 1)) starts xs (node .bound .0) (d .tested .bounds))
+  pub week-bound : node .bound .0 ≤ MOST_BOUND
+  week-bound = bounds-small ws l us f (d .dual) (firstUnits (j + 1)) starts xs (node .bound .0) (d .tested .bounds)
 
   -- a row's units, as a set
-  row-set : has (getD rows t 0 % 65536) ≡ placed (problemOf ws) (startIn (node .starts)) (node .unit) t
+  row-set : has (getD rows t 0 % SETS) ≡ placed (problemOf ws) (entry (node .starts)) (node .unit) t
   row-set = fun-ext (d .due .tallied .sets t in-season)
 
   -- what the week's test asks
@@ -258,87 +259,87 @@ module _ (ws : List ℕ) (l : Layout) (us rows : List ℕ) (node : Node) (t : �
   }
 
   -- unit j is out in it
-  own-out : inSpan (startIn (node .starts) (node .unit)) (problemOf ws .duration (node .unit)) t ≡ true
+  own-out : inSpan (entry (node .starts) (node .unit)) (problemOf ws .duration (node .unit)) t ≡ true
   own-out = span-of (starts j) (p .duration j) t (d .from) (d .before)
 
   -- units that may not be out together in it: their starts are a dead end
-  blamed-shut : (b : ℕ) → WeekShuts (problemOf ws) (has (getD rows t 0 % 65536)) (node .unit) t b
-      → Shuts (problemOf ws) (startIn (node .starts)) (node .unit + 1) b
+  blamed-shut : (b : ℕ) → WeekShuts (problemOf ws) (has (getD rows t 0 % SETS)) (node .unit) t b
+      → Shuts (problemOf ws) (entry (node .starts)) (node .unit + 1) b
   unfolding placed outIn
   blamed-shut b s = record {
     blames = λ limit. record { closed = s .shuts .closed starts (λ i q. outs i (out-here i q)) limit; within = λ i q. below i (out-here i q) };
   }
     where
       -- below j and out, or j
-      out-here : (i : ℕ) → has b i ≡ true → (placed (problemOf ws) (startIn (node .starts)) (node .unit) t i || eqb i (node .unit)) ≡ true
+      out-here : (i : ℕ) → has b i ≡ true → (placed (problemOf ws) (entry (node .starts)) (node .unit) t i || eqb i (node .unit)) ≡ true
       out-here i q = sym (ap (λ (x : Bool). x || eqb i j) (d .due .tallied .sets t in-season i)) ∙ s .within i q
 
-      outs : (i : ℕ) → (placed (problemOf ws) (startIn (node .starts)) (node .unit) t i || eqb i (node .unit)) ≡ true
-          → outIn (problemOf ws) (startIn (node .starts)) t i ≡ true
+      outs : (i : ℕ) → (placed (problemOf ws) (entry (node .starts)) (node .unit) t i || eqb i (node .unit)) ≡ true
+          → outIn (problemOf ws) (entry (node .starts)) t i ≡ true
       outs i q = go (placed p starts j t i) refl q
         where
-          go : (c : Bool) → placed (problemOf ws) (startIn (node .starts)) (node .unit) t i ≡ c → (c || eqb i (node .unit)) ≡ true
-              → outIn (problemOf ws) (startIn (node .starts)) t i ≡ true
+          go : (c : Bool) → placed (problemOf ws) (entry (node .starts)) (node .unit) t i ≡ c → (c || eqb i (node .unit)) ≡ true
+              → outIn (problemOf ws) (entry (node .starts)) t i ≡ true
           go true c _ = and-right (ltb i j) (outIn p starts t i) c
           go false _ z = subst (λ (x : ℕ). outIn p starts t x ≡ true) (sym (eqb-true i j z)) own-out
 
-      below : (i : ℕ) → (placed (problemOf ws) (startIn (node .starts)) (node .unit) t i || eqb i (node .unit)) ≡ true → i < node .unit + 1
+      below : (i : ℕ) → (placed (problemOf ws) (entry (node .starts)) (node .unit) t i || eqb i (node .unit)) ≡ true → i < node .unit + 1
       below i q = go (placed p starts j t i) refl q
         where
-          go : (c : Bool) → placed (problemOf ws) (startIn (node .starts)) (node .unit) t i ≡ c → (c || eqb i (node .unit)) ≡ true
+          go : (c : Bool) → placed (problemOf ws) (entry (node .starts)) (node .unit) t i ≡ c → (c || eqb i (node .unit)) ≡ true
               → i < node .unit + 1
           go true c _ = omega (arith, ltb-true i j (and-left (ltb i j) (outIn p starts t i) c))
           go false _ z = omega (arith, eqb-true i j z)
 
   -- a week that fails
   pub week-shut : (v : Trial) (b : ℕ) → WeekTested (problemOf ws) (priceIn us) (node .unit) t (getD rows t 0) v → v ≡ Fails b
-      → Shuts (problemOf ws) (startIn (node .starts)) (node .unit + 1) b
+      → Shuts (problemOf ws) (entry (node .starts)) (node .unit + 1) b
   week-shut v b h e = blamed-shut b (subst (WeekTested p (priceIn us) j t (getD rows t 0)) e h)
 
   module _ (v : Trial) (r : Euro) (h : WeekTested (problemOf ws) (priceIn us) (node .unit) t (getD rows t 0) v) (e : v ≡ Holds r) where
-    holds : WeekHolds (problemOf ws) (priceIn us) (placed (problemOf ws) (startIn (node .starts)) (node .unit) t) (node .unit) t (r .0)
+    holds : WeekHolds (problemOf ws) (priceIn us) (placed (problemOf ws) (entry (node .starts)) (node .unit) t) (node .unit) t (r .0)
     holds = subst (λ (a : NumSet). WeekHolds p (priceIn us) a j t (r .0)) row-set (subst (WeekTested p (priceIn us) j t (getD rows t 0)) e h)
 
-    -- its worth is small
+    -- its value is small
     pub week-small : r .0 ≤ NO_RUN
     week-small = holds .small
 
     abbrev k : ℕ
-    k = t + 1 - startIn (node .starts) (node .unit)
+    k = t + 1 - entry (node .starts) (node .unit)
 
-    next : t + 1 + 1 - startIn (node .starts) (node .unit) ≡ t + 1 - startIn (node .starts) (node .unit) + 1
+    next : t + 1 + 1 - entry (node .starts) (node .unit) ≡ t + 1 - entry (node .starts) (node .unit) + 1
     next = omega (arith, d .from)
 
-    here : with (placed (problemOf ws) (startIn (node .starts)) (node .unit) t) (node .unit)
-        ≡ partly (problemOf ws) (startIn (node .starts)) (node .unit) (t + 1 + 1 - startIn (node .starts) (node .unit)) t
+    here : with (placed (problemOf ws) (entry (node .starts)) (node .unit) t) (node .unit)
+        ≡ partly (problemOf ws) (entry (node .starts)) (node .unit) (t + 1 + 1 - entry (node .starts) (node .unit)) t
     here = sym (ap (λ (n : ℕ). partly p starts j n t) next ∙ fun-ext (λ i. partly-here p starts j k t i (omega (arith, d .from))))
 
-    else : (q : ℕ) → (q ≡ t → ⊥) → partly (problemOf ws) (startIn (node .starts)) (node .unit) (t + 1 - startIn (node .starts) (node .unit)) q
-        ≡ partly (problemOf ws) (startIn (node .starts)) (node .unit) (t + 1 + 1 - startIn (node .starts) (node .unit)) q
+    else : (q : ℕ) → (q ≡ t → ⊥) → partly (problemOf ws) (entry (node .starts)) (node .unit) (t + 1 - entry (node .starts) (node .unit)) q
+        ≡ partly (problemOf ws) (entry (node .starts)) (node .unit) (t + 1 + 1 - entry (node .starts) (node .unit)) q
     else q ne =
         sym (ap (λ (n : ℕ). partly p starts j n q) next ∙ fun-ext (λ i. partly-else p starts j k q i (λ z. ne (omega (arith, d .from)))))
 
     compatible : (q : ℕ) → q < problemOf ws .weeks → Dec (q ≡ t)
-        → Compatible (problemOf ws) (partly (problemOf ws) (startIn (node .starts)) (node .unit) (t + 1 + 1 - startIn (node .starts) (node .unit)) q)
+        → Compatible (problemOf ws) (partly (problemOf ws) (entry (node .starts)) (node .unit) (t + 1 + 1 - entry (node .starts) (node .unit)) q)
     compatible q m (yes z) =
         subst (λ (x : ℕ). Compatible p (partly p starts j (t + 1 + 1 - starts j) x)) (sym z) (subst (Compatible p) here (holds .compatible))
     compatible q m (no z) = subst (Compatible p) (else q z) (d .tested .compatible q m)
 
     served : (q : ℕ) → q < problemOf ws .weeks → Dec (q ≡ t)
-        → fullLeast (problemOf ws) q (partly (problemOf ws) (startIn (node .starts)) (node .unit) (t + 1 + 1 - startIn (node .starts) (node .unit)) q) < NO_RUN
+        → fullLeast (problemOf ws) q (partly (problemOf ws) (entry (node .starts)) (node .unit) (t + 1 + 1 - entry (node .starts) (node .unit)) q) < NO_RUN
     served q m (yes z) =
         subst (λ (x : ℕ). fullLeast p x (partly p starts j (t + 1 + 1 - starts j) x) < NO_RUN) (sym z)
         (subst (λ (a : NumSet). fullLeast p t a < NO_RUN) here (holds .serves))
     served q m (no z) = subst (λ (a : NumSet). fullLeast p q a < NO_RUN) (else q z) (d .tested .served q m)
 
     -- who is out in that week, unit j among them, is out by the first j + 1 starts
-    out-too : (i : ℕ) → i < problemOf ws .units → with (placed (problemOf ws) (startIn (node .starts)) (node .unit) t) (node .unit) i ≡ true
-        → outOf (problemOf ws) (firstUnits (node .unit + 1)) (startIn (node .starts)) t i ≡ true
+    out-too : (i : ℕ) → i < problemOf ws .units → with (placed (problemOf ws) (entry (node .starts)) (node .unit) t) (node .unit) i ≡ true
+        → outOf (problemOf ws) (firstUnits (node .unit + 1)) (entry (node .starts)) t i ≡ true
     unfolding placed outOf firstUnits outIn
     out-too i m o = go (placed p starts j t i) refl o
       where
-        go : (c : Bool) → placed (problemOf ws) (startIn (node .starts)) (node .unit) t i ≡ c → (c || eqb i (node .unit)) ≡ true
-            → (ltb i (node .unit + 1) && inSpan (startIn (node .starts) i) (problemOf ws .duration i) t) ≡ true
+        go : (c : Bool) → placed (problemOf ws) (entry (node .starts)) (node .unit) t i ≡ c → (c || eqb i (node .unit)) ≡ true
+            → (ltb i (node .unit + 1) && inSpan (entry (node .starts) i) (problemOf ws .duration i) t) ≡ true
         go true c _ =
             let x = ltb-true i j (and-left (ltb i j) (inSpan (starts i) (p .duration i) t) c) in
             and-of (ltb i (j + 1)) (inSpan (starts i) (p .duration i) t) (lt-ltb i (j + 1) (omega arith))
@@ -348,8 +349,8 @@ module _ (ws : List ℕ) (l : Layout) (us rows : List ℕ) (node : Node) (t : �
             rw q (and-of (ltb j (j + 1)) (inSpan (starts j) (p .duration j) t) (lt-ltb j (j + 1) (omega arith)) own-out)
 
     put : (x : ℕ) → x ≡ node .bound .0 + r .0 - getD xs t 0
-        → TestedTo (problemOf ws) us (startIn (node .starts)) (node .unit) (t + 1) (set xs t (r .0)) x
-    unfolding worthIn
+        → TestedTo (problemOf ws) us (entry (node .starts)) (node .unit) (t + 1) (set xs t (r .0)) x
+    unfolding entry
     put x ex = record {
       compatible = λ q m. compatible q m (ℕ-discrete q t);
       served = λ q m. served q m (ℕ-discrete q t);
@@ -361,5 +362,5 @@ module _ (ws : List ℕ) (l : Layout) (us rows : List ℕ) (node : Node) (t : �
 
     -- one week more, that holds
     pub week-next : (x : ℕ) (ys : List ℕ) → x ≡ node .bound .0 + r .0 - getD xs t 0 → ys ≡ set xs t (r .0)
-        → TestedTo (problemOf ws) us (startIn (node .starts)) (node .unit) (t + 1) ys x
+        → TestedTo (problemOf ws) us (entry (node .starts)) (node .unit) (t + 1) ys x
     week-next x ys ex ey = subst (λ (zs : List ℕ). TestedTo p us starts j (t + 1) zs x) (sym ey) (put x ex)

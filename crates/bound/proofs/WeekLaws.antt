@@ -11,6 +11,7 @@ use borrow.Author.Tests.{eq-eqb}
 use Rattle.sums.specs.NumSet.{NumSet, has, with}
 use Rattle.sums.proofs.LogicLaws.{true-false, and-of, and-left, and-right, or-left, or-right, not-so}
 use Rattle.sums.proofs.NumSetLaws.{zero-has}
+use Rattle.sets.specs.Sets.{SETS}
 use Rattle.model.specs.declared.Layout.{Layout}
 use Rattle.model.specs.Pairs.{apart}
 use Rattle.model.specs.Rules.{headcount}
@@ -65,73 +66,73 @@ module _ (ws : List ℕ) (l : Layout) (us : List ℕ) (t : ℕ) (y : Tally) (at 
 
 -- ---- the excluded pairs
 
-module _ (ws : List ℕ) (l : Layout) (us : List ℕ) (j t word clash both : ℕ) (y : Tally) (at : WeekAt ws l us t) (unit : j < l .units)
-    (d : WeekDue (problemOf ws) j t word) (e : y ≡ tallyOf word) (is : clash ≡ partnersIn us j)
-    (meet : (k : ℕ) → has both k ≡ (has (y .out) k && has clash k)) where
+module _ (ws : List ℕ) (l : Layout) (us : List ℕ) (j t word partners both : ℕ) (y : Tally) (at : WeekAt ws l us t) (unit : j < l .units)
+    (d : WeekDue (problemOf ws) j t word) (e : y ≡ tallyOf word) (is : partners ≡ partnersIn us j)
+    (meet : (k : ℕ) → has both k ≡ (has (y .out) k && has partners k)) where
   file : Filed ws l
   file = at .filed
 
   own-unit : j < problemOf ws .units
   own-unit = omega (arith, unit, file .units-are)
 
-  meets : (k : ℕ) → has both k ≡ (has (word % 65536) k && has clash k)
+  meets : (k : ℕ) → has both k ≡ (has (word % SETS) k && has partners k)
   meets k = meet k ∙ rw e
 
-  clash-is : (k : ℕ) → has clash k ≡ apart (problemOf ws) j k
-  clash-is k = ap (λ (x : ℕ). has x k) is ∙ at .priced .partners .each j own-unit .sets k
+  partners-is : (k : ℕ) → has partners k ≡ apart (problemOf ws) j k
+  partners-is k = ap (λ (x : ℕ). has x k) is ∙ at .priced .partners .each j own-unit .sets k
 
   -- some unit out forms one with unit j: all such units, and unit j, are to blame
   pub pair-shuts : (r : ℕ) → both < 4294967296 → (both ≡ 0 → ⊥) → ((k : ℕ) → has r k ≡ (has both k || eqb k j))
-      → WeekShuts (problemOf ws) (has (word % 65536)) j t r
+      → WeekShuts (problemOf ws) (has (word % SETS)) j t r
   pair-shuts r b ne with-j = record { within = within; shuts = record { closed = closed } }
     where
-      within : (i : ℕ) → has r i ≡ true → (has (word % 65536) i || eqb i j) ≡ true
+      within : (i : ℕ) → has r i ≡ true → (has (word % SETS) i || eqb i j) ≡ true
       within i q = go (has both i) refl (sym (with-j i) ∙ q)
         where
-          go : (c : Bool) → has both i ≡ c → (c || eqb i j) ≡ true → (has (word % 65536) i || eqb i j) ≡ true
-          go true c _ = or-left (has (word % 65536) i) (eqb i j) (and-left (has (word % 65536) i) (has clash i) (sym (meets i) ∙ c))
-          go false c s = or-right (has (word % 65536) i) (eqb i j) s
+          go : (c : Bool) → has both i ≡ c → (c || eqb i j) ≡ true → (has (word % SETS) i || eqb i j) ≡ true
+          go true c _ = or-left (has (word % SETS) i) (eqb i j) (and-left (has (word % SETS) i) (has partners i) (sym (meets i) ∙ c))
+          go false c s = or-right (has (word % SETS) i) (eqb i j) s
 
       m : Member both
       m = some-member both b ne
 
-      in-both : (has (word % 65536) (m .unit) && has clash (m .unit)) ≡ true
+      in-both : (has (word % SETS) (m .unit) && has partners (m .unit)) ≡ true
       in-both = sym (meets (m .unit)) ∙ m .holds
 
       closed : (starts : ℕ → ℕ) → ((i : ℕ) → has r i ≡ true → outIn (problemOf ws) starts t i ≡ true) → (limit : ℕ)
           → Closed (problemOf ws) (has r) starts limit
       closed starts outs limit =
           let i = m .unit in
-          let o = and-left (has (word % 65536) i) (has clash i) in-both in
+          let o = and-left (has (word % SETS) i) (has partners i) in-both in
           let k : i < problemOf ws .units = omega (arith, d .within i o, own-unit) in
-          let pair : apart (problemOf ws) j i ≡ true = sym (clash-is i) ∙ and-right (has (word % 65536) i) (has clash i) in-both in
+          let pair : apart (problemOf ws) j i ≡ true = sym (partners-is i) ∙ and-right (has (word % SETS) i) (has partners i) in-both in
           pair-closed (problemOf ws) (has r) starts t (fair ws (file .passed)) (omega (arith, at .week, file .weeks-are)) (λ n _. outs n) j i own-unit k pair
           (with-j j ∙ or-right (has both j) (eqb j j) (eq-eqb j j refl)) (with-j i ∙ or-left (has both i) (eqb i j) (m .holds)) limit
 
   -- none does: the week is as the test of all who are out says
   module _ (z : Tally) (more : (k : ℕ) → has (z .out) k ≡ (has (y .out) k || eqb k j)) (none : both ≡ 0) where
-    joins : has (z .out) ≡ with (has (word % 65536)) j
+    joins : has (z .out) ≡ with (has (word % SETS)) j
     joins = fun-ext (λ k. more k ∙ rw e)
 
-    clear : (i : ℕ) → i < problemOf ws .units → has (word % 65536) i ≡ true → apart (problemOf ws) j i ≡ false
+    clear : (i : ℕ) → i < problemOf ws .units → has (word % SETS) i ≡ true → apart (problemOf ws) j i ≡ false
     clear i _ o =
         not-so (apart (problemOf ws) j i)
         (λ q.
         true-false
-        (sym (and-of (has (word % 65536) i) (has clash i) o (clash-is i ∙ q)) ∙ sym (meets i) ∙ ap (λ (x : ℕ). has x i) none ∙ zero-has i))
+        (sym (and-of (has (word % SETS) i) (has partners i) o (partners-is i ∙ q)) ∙ sym (meets i) ∙ ap (λ (x : ℕ). has x i) none ∙ zero-has i))
 
-    holds : (u : ℕ → ℕ → ℕ) (v : ℕ) → OutHolds (problemOf ws) u t (has (z .out)) v → WeekHolds (problemOf ws) u (has (word % 65536)) j t v
+    holds : (u : ℕ → ℕ → ℕ) (v : ℕ) → OutHolds (problemOf ws) u t (has (z .out)) v → WeekHolds (problemOf ws) u (has (word % SETS)) j t v
     holds u v h =
-        let o : OutHolds (problemOf ws) u t (with (has (word % 65536)) j) v = subst (λ (a : NumSet). OutHolds (problemOf ws) u t a v) joins h in
+        let o : OutHolds (problemOf ws) u t (with (has (word % SETS)) j) v = subst (λ (a : NumSet). OutHolds (problemOf ws) u t a v) joins h in
         record {
-          compatible = compatible-joined (problemOf ws) (has (word % 65536)) (with (has (word % 65536)) j) j (fair ws (file .passed))
+          compatible = compatible-joined (problemOf ws) (has (word % SETS)) (with (has (word % SETS)) j) j (fair ws (file .passed))
               (ranged ws (file .passed) .pair-order) (d .compatible) (o .crewed) (λ i _. refl) clear;
           serves = o .serves;
           least = o .least;
           small = o .small;
         }
 
-    shuts : (b : ℕ) → (b ≡ z .out) × OutShuts (problemOf ws) t b → WeekShuts (problemOf ws) (has (word % 65536)) j t b
+    shuts : (b : ℕ) → (b ≡ z .out) × OutShuts (problemOf ws) t b → WeekShuts (problemOf ws) (has (word % SETS)) j t b
     shuts b h = record {
       within = λ i q. sym (ap (λ (a : NumSet). a i) joins) ∙ (ap (λ (x : ℕ). has x i) (sym (h .0)) ∙ q);
       shuts = h .1;

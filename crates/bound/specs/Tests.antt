@@ -8,6 +8,8 @@ use lib.ListN.{length, getD}
 use lib.Dec.{eqb}
 use Rattle.sums.specs.Range.{someTo}
 use Rattle.sums.specs.NumSet.{NumSet, has, with}
+use Rattle.sums.specs.Table.{entry}
+use Rattle.sets.specs.Sets.{SETS}
 use Rattle.model.specs.declared.Layout.{Layout}
 use Rattle.model.specs.Problem.{Problem}
 use Rattle.model.specs.Domain.{permitted, startCount}
@@ -19,17 +21,27 @@ use Rattle.model.specs.Nogood.{MOST_LIMIT}
 use Rattle.model.specs.Words.{problemOf}
 use Rattle.instance.specs.Filed.{Filed}
 use Rattle.commitment.specs.Tally.{Tallies}
-use Rattle.blame.specs.Closed.{startIn, Closed}
+use Rattle.blame.specs.Closed.{Closed}
 use Rattle.blame.specs.Placed.{firstUnits, placed, partly, Standing, runAt}
 use Rattle.blame.specs.Priced.{WeekLeast}
 use Rattle.tables.specs.Tables.{priceIn, excessIn, rootIn, totalIn}
-use Rattle.relaxation.specs.Relaxed.{Recalls}
+use Rattle.relaxation.specs.Relaxed.{MemoTrue}
 use Rattle.dual.specs.declared.Node.{Node}
-use Rattle.dual.specs.Dual.{Dual, worthIn, Bounds}
+use Rattle.dual.specs.Dual.{Dual, Bounds}
 use Rattle.dual.specs.Blame.{PermitsTo, withBound}
 use Rattle.bound.specs.Rows.{tallyOf, Rows}
 use Rattle.bound.specs.declared.Trial.{Trial}
 use Rattle.bound.specs.declared.Trial.the-variants.{Holds, Fails}
+
+-- ---- what bounds come to
+
+-- what all overhauls come to at least is no more: 16 words of 32 bits
+abbrev pub MOST_LEAST : ℕ
+MOST_LEAST = 68719476736
+
+-- a lower bound is no more: 16 overhauls and 52 weeks at their dearest
+abbrev pub MOST_BOUND : ℕ
+MOST_BOUND = 18253611008
 
 -- ---- dead ends
 
@@ -51,8 +63,8 @@ pub record OutShuts (p : Problem) (t b : ℕ) : Type 0 where
 -- week t of unit j's overhaul: a word with the tally of the units out, all below j, who may be out together
 pub record WeekDue (p : Problem) (j t word : ℕ) : Type 0 where
   pub tally : Tallies p t (tallyOf word)
-  pub within : (i : ℕ) → has (word % 65536) i ≡ true → i < j
-  pub compatible : Compatible p (has (word % 65536))
+  pub within : (i : ℕ) → has (word % SETS) i ≡ true → i < j
+  pub compatible : Compatible p (has (word % SETS))
 
 -- there are crews for the units out in week t, the others leave a run, and the week is worth at least v
 pub record OutHolds (p : Problem) (u : ℕ → ℕ → ℕ) (t : ℕ) (a : NumSet) (v : ℕ) : Type 0 where
@@ -80,8 +92,8 @@ pub record WeekHolds (p : Problem) (u : ℕ → ℕ → ℕ) (a : NumSet) (j t v
 
 -- the test of a week, by the word with its tally
 abbrev pub WeekTested : Problem → (u : ℕ → ℕ → ℕ) → (j t word : ℕ) → Trial → Type 0
-WeekTested p u j t word (Holds r) = WeekHolds p u (has (word % 65536)) j t (r .0)
-WeekTested p u j t word (Fails b) = WeekShuts p (has (word % 65536)) j t b
+WeekTested p u j t word (Holds r) = WeekHolds p u (has (word % SETS)) j t (r .0)
+WeekTested p u j t word (Fails b) = WeekShuts p (has (word % SETS)) j t b
 
 -- ---- the weeks of an overhaul
 
@@ -94,11 +106,11 @@ pub record Due (p : Problem) (rows : List ℕ) (starts : ℕ → ℕ) (j : ℕ) 
 -- the node's unit is one of the problem's, at a permitted start
 pub record StartPermitted (p : Problem) (node : Node) : Type 0 where
   pub unit : node .unit < p .units
-  pub permits : permitted p (node .unit) (startIn (node .starts) (node .unit)) ≡ true
+  pub permits : permitted p (node .unit) (entry (node .starts) (node .unit)) ≡ true
 
 -- the weeks of its overhaul
 pub record OverhaulWeeks (p : Problem) (node : Node) (first end : ℕ) : Type 0 where
-  pub start : startIn (node .starts) (node .unit) ≡ first + 1
+  pub start : entry (node .starts) (node .unit) ≡ first + 1
   pub last : end ≡ first + p .duration (node .unit)
   pub season : end ≤ p .weeks
 
@@ -120,15 +132,15 @@ Tested p us starts j wanted xs (Fails b) = Shuts p starts (j + 1) b
 
 -- ---- a start
 
--- the first k units stand, and r is a lower bound of all schedules with their starts, by the weeks' worths
+-- the first k units stand, and r is a lower bound of all schedules with their starts, by the weeks' values
 pub record Stands (p : Problem) (us : List ℕ) (starts : ℕ → ℕ) (k : ℕ) (xs : List ℕ) (r : ℕ) : Type 0 where
   pub standing : Standing p starts k
   pub bounds : Bounds p us (firstUnits k) starts xs r
 
 -- a start is judged: one unit more stands; or some of them are a dead end
 abbrev pub Judged : Problem → (us : List ℕ) → Node → (limit : ℕ) → List ℕ → Trial → Type 0
-Judged p us node limit xs (Holds r) = Stands p us (startIn (node .starts)) (node .unit + 1) xs (r .0)
-Judged p us node limit xs (Fails b) = Blames p (startIn (node .starts)) (node .unit + 1) limit b
+Judged p us node limit xs (Holds r) = Stands p us (entry (node .starts)) (node .unit + 1) xs (r .0)
+Judged p us node limit xs (Fails b) = Blames p (entry (node .starts)) (node .unit + 1) limit b
 
 -- ---- what the functions ask
 
@@ -136,50 +148,50 @@ Judged p us node limit xs (Fails b) = Blames p (startIn (node .starts)) (node .u
 pub record StartBounded (node : Node) : Type 0 where
   pub unit : node .unit < 16
   pub start : getD (node .starts) (node .unit) 0 < 64
-  pub small : node .bound .0 ≤ 18253611008
+  pub small : node .bound .0 ≤ MOST_BOUND
 
 -- with that start
 abbrev pub withStart : List ℕ → Node → Node
-withStart us node = withBound node (record { 0 = node .bound .0 + excessIn us (node .unit) (startIn (node .starts) (node .unit)) })
+withStart us node = withBound node (record { 0 = node .bound .0 + excessIn us (node .unit) (entry (node .starts) (node .unit)) })
 
 -- before the weeks of an overhaul: the node's unit is due, those below it stand, and the node's bound has its start in it
 pub record StartDue (ws : List ℕ) (l : Layout) (us rows : List ℕ) (node : Node) (xs memo : List ℕ) : Type 0 where
   pub filed : Filed ws l
   pub dual : Dual (problemOf ws) us
-  pub due : Due (problemOf ws) rows (startIn (node .starts)) (node .unit)
-  pub standing : Standing (problemOf ws) (startIn (node .starts)) (node .unit)
-  pub bounds : Bounds (problemOf ws) us (firstUnits (node .unit + 1)) (startIn (node .starts)) xs (node .bound .0)
-  pub recalls : Recalls (problemOf ws) (priceIn us) memo
+  pub due : Due (problemOf ws) rows (entry (node .starts)) (node .unit)
+  pub standing : Standing (problemOf ws) (entry (node .starts)) (node .unit)
+  pub bounds : Bounds (problemOf ws) us (firstUnits (node .unit + 1)) (entry (node .starts)) xs (node .bound .0)
+  pub recalls : MemoTrue (problemOf ws) (priceIn us) memo
 
 -- before week t of it: the weeks before are tested, at the node's bound
 pub record WeeksDue (ws : List ℕ) (l : Layout) (us rows : List ℕ) (node : Node) (t : ℕ) (xs memo : List ℕ) : Type 0 where
   pub filed : Filed ws l
   pub dual : Dual (problemOf ws) us
-  pub due : Due (problemOf ws) rows (startIn (node .starts)) (node .unit)
-  pub standing : Standing (problemOf ws) (startIn (node .starts)) (node .unit)
-  pub from : startIn (node .starts) (node .unit) ≤ t + 1
-  pub before : t + 1 < startIn (node .starts) (node .unit) + problemOf ws .duration (node .unit)
+  pub due : Due (problemOf ws) rows (entry (node .starts)) (node .unit)
+  pub standing : Standing (problemOf ws) (entry (node .starts)) (node .unit)
+  pub from : entry (node .starts) (node .unit) ≤ t + 1
+  pub before : t + 1 < entry (node .starts) (node .unit) + problemOf ws .duration (node .unit)
   pub season : t < l .weeks
-  pub tested : TestedTo (problemOf ws) us (startIn (node .starts)) (node .unit) t xs (node .bound .0)
-  pub recalls : Recalls (problemOf ws) (priceIn us) memo
+  pub tested : TestedTo (problemOf ws) us (entry (node .starts)) (node .unit) t xs (node .bound .0)
+  pub recalls : MemoTrue (problemOf ws) (priceIn us) memo
 
 -- a verdict of the weeks that is to be weighed against a limit
 pub record Weighing (ws : List ℕ) (l : Layout) (us : List ℕ) (node : Node) (v : Trial) (limit : ℕ) (xs : List ℕ) : Type 0 where
   pub filed : Filed ws l
   pub dual : Dual (problemOf ws) us
   pub unit : node .unit < l .units
-  pub permits : PermitsTo (problemOf ws) (startIn (node .starts)) (node .unit + 1)
-  pub tested : Tested (problemOf ws) us (startIn (node .starts)) (node .unit) (limit + totalIn us) xs v
+  pub permits : PermitsTo (problemOf ws) (entry (node .starts)) (node .unit + 1)
+  pub tested : Tested (problemOf ws) us (entry (node .starts)) (node .unit) (limit + totalIn us) xs v
   pub small : limit ≤ MOST_LIMIT
 
 -- before the start of the node's unit is tested: those below it stand at the node's bound
 pub record TestDue (ws : List ℕ) (l : Layout) (us rows : List ℕ) (node : Node) (limit : ℕ) (xs memo : List ℕ) : Type 0 where
   pub filed : Filed ws l
   pub dual : Dual (problemOf ws) us
-  pub due : Due (problemOf ws) rows (startIn (node .starts)) (node .unit)
-  pub stands : Stands (problemOf ws) us (startIn (node .starts)) (node .unit) xs (node .bound .0)
+  pub due : Due (problemOf ws) rows (entry (node .starts)) (node .unit)
+  pub stands : Stands (problemOf ws) us (entry (node .starts)) (node .unit) xs (node .bound .0)
   pub small : limit ≤ MOST_LIMIT
-  pub recalls : Recalls (problemOf ws) (priceIn us) memo
+  pub recalls : MemoTrue (problemOf ws) (priceIn us) memo
 
 -- before any unit is placed
 pub record RootDue (ws : List ℕ) (l : Layout) (us : List ℕ) (limit : ℕ) : Type 0 where
@@ -197,14 +209,14 @@ pub record AllStand (p : Problem) (us xs : List ℕ) (r : ℕ) : Type 0 where
 pub record AllBlame (p : Problem) (limit b : ℕ) : Type 0 where
   pub each : (starts : ℕ → ℕ) → Blames p starts 0 limit b
 
--- the weeks' worths with nobody out
-pub record Fronts (us xs : List ℕ) : Type 0 where
+-- the weeks' values with nobody out
+pub record RootValues (us xs : List ℕ) : Type 0 where
   pub long : length xs ≡ 52
-  pub each : (t : ℕ) → t < 52 → worthIn xs t ≡ rootIn us t
+  pub each : (t : ℕ) → t < 52 → entry xs t ≡ rootIn us t
 
 -- no unit is placed, whatever the starts: r is a lower bound; or nothing is left below the limit, and nobody is to blame
 abbrev pub Rooted : Problem → (us : List ℕ) → ℕ → Trial → Type 0
-Rooted p us limit (Holds r) = (xs : List ℕ) → Fronts us xs → AllStand p us xs (r .0)
+Rooted p us limit (Holds r) = (xs : List ℕ) → RootValues us xs → AllStand p us xs (r .0)
 Rooted p us limit (Fails b) = AllBlame p limit b
 
 -- unit i has no permitted start

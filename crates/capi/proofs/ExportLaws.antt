@@ -5,7 +5,7 @@ use mathlib.Core.Path.{_≡_, _∙_, ap, subst}
 use mathlib.Core.List.{List}
 use lib.ListN.{length}
 use Rattle.model.specs.Bytes.{loadedInto}
-use Rattle.model.specs.Verdict.{Verdict, Reply}
+use Rattle.model.specs.Verdict.{Verdict, Figure}
 use Rattle.model.specs.Problem.{Problem}
 use Rattle.model.specs.Schedule.{Schedule}
 use Rattle.model.specs.Drawing.{drawnInto}
@@ -14,8 +14,8 @@ use Rattle.model.specs.Asks.{Outcome, Ran}
 use Rattle.quotes.specs.Quotes.{costsInto, KeptIfRefused}
 
 -- the same words
-pub reply-into : (a b : Reply) (bs ws r : List ℕ) → a ≡ b → r ≡ loadedInto a bs ws → r ≡ loadedInto b bs ws
-reply-into a b bs ws r e h = h ∙ ap (λ (x : Reply). loadedInto x bs ws) e
+pub reply-into : (a b : Figure) (bs ws r : List ℕ) → a ≡ b → r ≡ loadedInto a bs ws → r ≡ loadedInto b bs ws
+reply-into a b bs ws r e h = h ∙ ap (λ (x : Figure). loadedInto x bs ws) e
 
 -- the same bytes
 pub verdict-into : (a b : Verdict) (p : Problem) (s : Schedule) (bs r : List ℕ) → a ≡ b → r ≡ drawnInto a p s bs → r ≡ drawnInto b p s bs

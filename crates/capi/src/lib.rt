@@ -15,17 +15,17 @@ ghost use Rattle.model.specs.Judgement.{judgeOf};
 ghost use Rattle.model.specs.Refusal.{runVerdict};
 ghost use Rattle.model.specs.Asks.{Outcome};
 ghost use Rattle.quotes.specs.Quotes.{quoteWith, runQuote, upkeepQuote, costsVerdict, costsInto, KeptIfRefused};
-ghost use Rattle.codes.specs.Codes.{refusedBy, refusedAt, deniedBy, given, judgedCode, judgedPlace, quotedCode};
+ghost use Rattle.codes.specs.Codes.{refusedBy, refusedAt, figureRefusedBy, given, judgedCode, judgedPlace, quotedCode};
 
 // Bytes to words: the refusal's number, 0 where a word for each four bytes was written. Its place is always 0.
 #[no_mangle]
 pub extern "C" fn novelbrisca_load(bytes: &[u8], words: &mut [u32]) -> u32
-    ensures answer { λ r. ⌜ r ≡ deniedBy (loadOf (now (bytes .entry)) (length (now (words .entry)))) ⌝ }
+    ensures answer { λ r. ⌜ r ≡ figureRefusedBy (loadOf (now (bytes .entry)) (length (now (words .entry)))) ⌝ }
     ensures buffer { λ r. ⌜ now (words .exit) ≡
         loadedInto (loadOf (now (bytes .entry)) (length (now (words .entry)))) (now (bytes .entry)) (now (words .entry)) ⌝ }
 {
     let reply = decoder::load(bytes, words);
-    codes::denial_number(reply)
+    codes::figure_refusal(reply)
 }
 
 // A plan file: the refusal's number, 0 where it is accepted.
@@ -51,7 +51,7 @@ pub extern "C" fn novelbrisca_read_place(words: &[u32]) -> usize
 pub extern "C" fn novelbrisca_sizing(words: &[u32]) -> usize
     ensures { λ r. ⌜ r ≡ given (sizingOf (now (words .entry))) ⌝ }
 {
-    let reply = decoder::sizing(words);
+    let reply = sizing::sizing(words);
     codes::number_given(reply)
 }
 
@@ -130,7 +130,7 @@ pub extern "C" fn novelbrisca_week_costs(
         (costsVerdict (now (words .entry)) (length (now (queries .entry))) (length (now (costs .entry))))
         (now (scratch .entry)) (now (scratch .exit)) ⌝ }
 {
-    let verdict = quotes::week_costs(words, queries, scratch, costs);
+    let verdict = quotes::quote_weeks(words, queries, scratch, costs);
     codes::refusal_number(verdict)
 }
 

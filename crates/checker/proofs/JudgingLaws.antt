@@ -14,7 +14,7 @@ use Rattle.model.specs.Words.{layoutOf, problemOf}
 use Rattle.model.specs.Verdict.{accepted, refused, andThen, firstFault}
 use Rattle.model.specs.Reading.{readOf}
 use Rattle.model.specs.Refusal.{cellFault, gridVerdict}
-use Rattle.model.specs.Judgement.{soundAt, breaks, rejected, judgement, judgeOf}
+use Rattle.model.specs.Judgement.{soundAt, breaks, refusedGrid, judgement, judgeOf}
 use Rattle.model.proofs.VerdictLaws.{Onward, onward-fault, onward-next, accepted-cells}
 use Rattle.instance.specs.Filed.{Filed}
 use Rattle.instance.proofs.FiledLaws.{filed, cells-are}
@@ -69,7 +69,7 @@ module _ (p : Problem) (x : States) (rule : ℕ) (is : rule ≡ broken p x) wher
 
 module _ (ws g : List ℕ) (v : Verdict) (e : readOf ws ≡ accepted) (said : verdictOf v ≡ gridVerdict (problemOf ws) g) where
   -- the grid is refused
-  pub grid-refused : (number place : ℕ) → v ≡ Refused number place → rejected number place ≡ judgeOf ws g
+  pub grid-refused : (number place : ℕ) → v ≡ Refused number place → refusedGrid number place ≡ judgeOf ws g
   unfolding judgeOf andThen
   grid-refused number place is = let q : refused number place ≡ gridVerdict (problemOf ws) g = rw is at said in rw (e, ← q)
 
@@ -98,7 +98,7 @@ module _ (ws g : List ℕ) (v : Verdict) (e : readOf ws ≡ accepted) (said : ve
 
 module _ (ws g : List ℕ) (v : Verdict) (said : verdictOf v ≡ readOf ws) where
   -- the file is refused
-  pub file-refused : (number place : ℕ) → v ≡ Refused number place → rejected number place ≡ judgeOf ws g
+  pub file-refused : (number place : ℕ) → v ≡ Refused number place → refusedGrid number place ≡ judgeOf ws g
   unfolding judgeOf andThen
   file-refused number place is = let q : refused number place ≡ readOf ws = rw is at said in rw (← q)
 

@@ -13,9 +13,9 @@ use Rattle.sums.specs.Logic.{if}
 use Rattle.model.specs.Bytes.{wordsTo, bytesVerdict, loadOf, loadedInto, fileEnd}
 use Rattle.model.specs.Verdict as model
 use Rattle.model.specs.Judgement as judging
-use Rattle.decoder.specs.Answers.{replyOf}
-use Rattle.decoder.specs.declared.Reply.{Reply}
-use Rattle.decoder.specs.declared.Reply.the-variants.{Number, Denied}
+use Rattle.decoder.specs.Answers.{figureOf}
+use Rattle.decoder.specs.declared.Figure.{Figure}
+use Rattle.decoder.specs.declared.Figure.the-variants.{Number, Refused as RefusedFigure}
 use Rattle.input.proofs.LoadedLaws.{load-refused, load-accepted, load-front}
 use Rattle.checker.specs.Answers.{judgementOf}
 use Rattle.checker.specs.declared.Judgement.{Judgement}
@@ -31,19 +31,19 @@ module _ (fs : List ℕ) (short : length fs ≤ 32768) (g : List ℕ) where
   unfolding judging.judgeBytes bytesVerdict
   bytes-verdict = go (eqb (length fs % 4) 0)
     where
-      go : (b : Bool) → if b (judging.judgeOf (wordsTo fs (length fs / 4)) g) (judging.rejected 16 0) ≡ judging.judged
+      go : (b : Bool) → if b (judging.judgeOf (wordsTo fs (length fs / 4)) g) (judging.refusedGrid 16 0) ≡ judging.judged
           (if b (if (leb (length fs / 4) 8192) model.accepted (model.refused 17 0)) (model.refused 16 0))
           (judging.judgeOf (wordsTo fs (length fs / 4)) g)
       go true = rw enough
       go false = refl
 
-  module _ (r : Reply) (said : replyOf r ≡ loadOf fs 8192) where
-    -- the bytes are denied
-    pub bytes-denied : (number place : ℕ) → r ≡ Denied number place → judging.rejected number place ≡ judging.judgeBytes fs g
-    bytes-denied number place is = sym (bytes-verdict ∙ rw (load-refused fs 8192 r said number place is))
+  module _ (r : Figure) (said : figureOf r ≡ loadOf fs 8192) where
+    -- the bytes are refused
+    pub bytes-refused : (number place : ℕ) → r ≡ RefusedFigure number place → judging.refusedGrid number place ≡ judging.judgeBytes fs g
+    bytes-refused number place is = sym (bytes-verdict ∙ rw (load-refused fs 8192 r said number place is))
 
     -- the words loaded are the file
-    pub bytes-judged : (n : ℕ) → r ≡ Number n → (words ws front : List ℕ) (j : Judgement) → ws ≡ loadedInto (replyOf r) fs words → front ≡ take n ws
+    pub bytes-judged : (n : ℕ) → r ≡ Number n → (words ws front : List ℕ) (j : Judgement) → ws ≡ loadedInto (figureOf r) fs words → front ≡ take n ws
         → judgementOf j ≡ judging.judgeOf front g → judgementOf j ≡ judging.judgeBytes fs g
     bytes-judged n is words ws front j left cut e =
         e
@@ -54,7 +54,7 @@ module _ (fs : List ℕ) (short : length fs ≤ 32768) (g : List ℕ) where
 
 module _ (bs : List ℕ) where
   -- too long
-  pub input-long : 32768 < length bs → judging.rejected 17 0 ≡ judging.judgeInput bs
+  pub input-long : 32768 < length bs → judging.refusedGrid 17 0 ≡ judging.judgeInput bs
   unfolding judging.judgeInput
   input-long h = simp (lt-leb (length bs) 32768 h)
 

@@ -12,7 +12,7 @@ use Rattle.report.specs.Put.{Put}
 use Rattle.report.proofs.PutLaws.{put-written}
 use Rattle.checker.specs.Answers.{judgementOf}
 use Rattle.checker.specs.declared.Judgement.{Judgement}
-use Rattle.checker.specs.declared.Judgement.the-variants.{Sound, Breaks, Rejected}
+use Rattle.checker.specs.declared.Judgement.the-variants.{Sound, Breaks, Refused as RefusedGrid}
 
 module _ (bs d text : List ℕ) (r : ℕ) (room : 50 ≤ length d) (same : length text ≡ length d) (j : Judgement) (is : judgementOf j ≡ judgeInput bs) where
   -- of at most 50 bytes
@@ -38,9 +38,9 @@ module _ (bs d text : List ℕ) (r : ℕ) (room : 50 ≤ length d) (same : lengt
       named (judging.breaks number) q (line 26 (ruleText number) h (omega arith))
 
   -- a refusal
-  pub text-refused : (number place : ℕ) → j ≡ Rejected number place → Put d text 0 r 50 (refusalText number place)
+  pub text-refused : (number place : ℕ) → j ≡ RefusedGrid number place → Put d text 0 r 50 (refusalText number place)
       → Written (judgementText (judgeInput bs)) d text r
   unfolding judgementText
   text-refused number place e h =
-      let q : judging.rejected number place ≡ judgeInput bs = rw e at is in
-      named (judging.rejected number place) q (line 50 (refusalText number place) h (omega arith))
+      let q : judging.refusedGrid number place ≡ judgeInput bs = rw e at is in
+      named (judging.refusedGrid number place) q (line 50 (refusalText number place) h (omega arith))

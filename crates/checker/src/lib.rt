@@ -23,7 +23,7 @@ ghost use Rattle.checker.specs.Stated.{Stated};
 pub enum Judgement {
     Sound(u64),
     Breaks(u32),
-    Rejected(u32, usize),
+    Refused(u32, usize),
 }
 
 // ---- formula (9)
@@ -132,7 +132,7 @@ fn judge_filed(words: &[u32], grid: &[u8]) -> Judgement
     let l = instance::layout_of(words);
     let v = grid_verdict(words, grid, l);
     match v {
-        Verdict::Refused(number, place) => Judgement::Rejected(number, place),
+        Verdict::Refused(number, place) => Judgement::Refused(number, place),
         Verdict::Accepted => judge_cells(words, grid, l),
     }
 }
@@ -143,7 +143,7 @@ pub fn judge(words: &[u32], grid: &[u8]) -> Judgement
 {
     let v = decoder::read(words);
     match v {
-        Verdict::Refused(number, place) => Judgement::Rejected(number, place),
+        Verdict::Refused(number, place) => Judgement::Refused(number, place),
         Verdict::Accepted => judge_filed(words, grid),
     }
 }
@@ -158,31 +158,31 @@ fn judge_bytes(file: &[u8], grid: &[u8]) -> Judgement
     let mut words = [0u32; 8192];
     let loaded = decoder::load(file, &mut words);
     match loaded {
-        decoder::Reply::Denied(number, place) => Judgement::Rejected(number, place),
-        decoder::Reply::Number(n) => judge(input::front(&words, n), grid),
+        decoder::Figure::Refused(number, place) => Judgement::Refused(number, place),
+        decoder::Figure::Number(n) => judge(input::front(&words, n), grid),
     }
 }
 
-// The judgement on a program's input: a file's bytes up to and with its end word, then a grid's.
+// The judgement on a program's input: a file's bytes up to and with its end word, then a grid's (D44).
 pub fn judge_input(bytes: &[u8]) -> Judgement
     ensures { λ r. ⌜ judgementOf r ≡ judgeInput (now (bytes .entry)) ⌝ }
 {
     if 32768 < bytes.len() {
-        return Judgement::Rejected(17, 0);
+        return Judgement::Refused(17, 0);
     }
     let end = input::file_end(bytes);
     judge_bytes(&bytes[..end], &bytes[end..])
 }
 
-// The line that is printed for a program's input: how many of the lent bytes it has; any beyond are kept. 50 bytes hold the longest.
+// The line that is printed for a program's input: how many of the lent bytes it has; any beyond are kept. 50 bytes hold the longest (D45).
 pub fn judge_text(bytes: &[u8], text: &mut [u8]) -> usize
     requires { ⌜ 50 ≤ length (now text) ⌝ }
     ensures { λ r. ⌜ Written (judgementText (judgeInput (now (bytes .entry)))) (now (text .entry)) (now (text .exit)) r ⌝ }
 {
     let judgement = judge_input(bytes);
     match judgement {
-        Judgement::Sound(cost) => report::sound(text, cost),
-        Judgement::Breaks(formula) => report::rule(text, formula),
-        Judgement::Rejected(number, place) => report::refusal(text, number, place),
+        Judgement::Sound(cost) => report::put_sound(text, cost),
+        Judgement::Breaks(formula) => report::put_rule(text, formula),
+        Judgement::Refused(number, place) => report::put_refusal(text, number, place),
     }
 }

@@ -5,23 +5,23 @@ use mathlib.Core.Path.{_≡_, refl, _∙_, ap, ap₂}
 use mathlib.Core.List.{List}
 use native.Mathlib.Omega.{arith}
 use Rattle.model.specs.Verdict as model
-use Rattle.decoder.specs.Answers.{verdictOf, replyOf}
+use Rattle.decoder.specs.Answers.{verdictOf, figureOf}
 use Rattle.decoder.specs.declared.Verdict.{Verdict}
 use Rattle.decoder.specs.declared.Verdict.the-variants.{Accepted, Refused}
-use Rattle.decoder.specs.declared.Reply.{Reply}
-use Rattle.decoder.specs.declared.Reply.the-variants.{Number, Denied}
+use Rattle.decoder.specs.declared.Figure.{Figure}
+use Rattle.decoder.specs.declared.Figure.the-variants.{Number, Refused as RefusedFigure}
 use Rattle.model.specs.Judgement as judged
 use Rattle.model.proofs.BoundLaws.{Bounded, judge-bounded}
 use Rattle.checker.specs.Answers.{judgementOf}
 use Rattle.checker.specs.declared.Judgement.{Judgement}
-use Rattle.checker.specs.declared.Judgement.the-variants.{Sound, Breaks, Rejected}
-use Rattle.quotes.specs.Quotes.{Quoted, none, quoted, denied}
+use Rattle.checker.specs.declared.Judgement.the-variants.{Sound, Breaks, Refused as RefusedGrid}
+use Rattle.quotes.specs.Quotes.{Quoted, none, quoted, refusedQuote}
 use Rattle.quotes.specs.Answers.{quotedOf}
 use Rattle.quotes.specs.declared.Quote.{Quote}
 use Rattle.quotes.specs.declared.Quote.the-variants as quote
 use Rattle.quotes.specs.declared.Quote.the-variants.{Nothing, Given}
 use Rattle.quotes.proofs.BoundLaws as quotes
-use Rattle.codes.specs.Codes.{refusedBy, refusedAt, deniedBy, given, judgedCode, judgedPlace, quotedCode}
+use Rattle.codes.specs.Codes.{refusedBy, refusedAt, figureRefusedBy, given, judgedCode, judgedPlace, quotedCode}
 
 -- ---- by cases
 
@@ -45,26 +45,26 @@ module _ (v : Verdict) where
 
 pub ruleset refusals = (accepted-by, accepted-at, refused-by, refused-at)
 
-module _ (r : Reply) where
+module _ (r : Figure) where
   module _ (n : ℕ) (e : r ≡ Number n) where
-    pub number-by : 0 ≡ deniedBy (replyOf r)
-    unfolding deniedBy
+    pub number-by : 0 ≡ figureRefusedBy (figureOf r)
+    unfolding figureRefusedBy
     number-by = rw e
 
-    pub number-given : n ≡ given (replyOf r)
+    pub number-given : n ≡ given (figureOf r)
     unfolding given
     number-given = rw e
 
-  module _ (number place : ℕ) (e : r ≡ Denied number place) where
-    pub denied-by : number ≡ deniedBy (replyOf r)
-    unfolding deniedBy
-    denied-by = rw e
+  module _ (number place : ℕ) (e : r ≡ RefusedFigure number place) where
+    pub refused-figure-by : number ≡ figureRefusedBy (figureOf r)
+    unfolding figureRefusedBy
+    refused-figure-by = rw e
 
-    pub denied-given : 0 ≡ given (replyOf r)
+    pub refused-figure-given : 0 ≡ given (figureOf r)
     unfolding given
-    denied-given = rw e
+    refused-figure-given = rw e
 
-pub ruleset replies = (number-by, number-given, denied-by, denied-given)
+pub ruleset replies = (number-by, number-given, refused-figure-by, refused-figure-given)
 
 module _ (j : Judgement) where
   module _ (c : ℕ) (e : j ≡ Sound c) where
@@ -85,16 +85,16 @@ module _ (j : Judgement) where
     unfolding judgedPlace
     breaks-place = rw e
 
-  module _ (number place : ℕ) (e : j ≡ Rejected number place) where
-    pub rejected-code : 8589934592 + number ≡ judgedCode (judgementOf j)
+  module _ (number place : ℕ) (e : j ≡ RefusedGrid number place) where
+    pub refused-grid-code : 8589934592 + number ≡ judgedCode (judgementOf j)
     unfolding judgedCode
-    rejected-code = rw e
+    refused-grid-code = rw e
 
-    pub rejected-place : place ≡ judgedPlace (judgementOf j)
+    pub refused-grid-place : place ≡ judgedPlace (judgementOf j)
     unfolding judgedPlace
-    rejected-place = rw e
+    refused-grid-place = rw e
 
-pub ruleset judgements = (sound-code, sound-place, breaks-code, breaks-place, rejected-code, rejected-place)
+pub ruleset judgements = (sound-code, sound-place, breaks-code, breaks-place, refused-grid-code, refused-grid-place)
 
 module _ (q : Quote) where
   pub nothing-code : q ≡ Nothing → 4611686018427387904 ≡ quotedCode (quotedOf q)
@@ -121,9 +121,9 @@ module _ (n : ℕ) (a b : model.Verdict) (e : a ≡ b) where
   pub verdict-at : n ≡ refusedAt a → n ≡ refusedAt b
   verdict-at h = h ∙ ap refusedAt e
 
-module _ (n : ℕ) (a b : model.Reply) (e : a ≡ b) where
-  pub reply-by : n ≡ deniedBy a → n ≡ deniedBy b
-  reply-by h = h ∙ ap deniedBy e
+module _ (n : ℕ) (a b : model.Figure) (e : a ≡ b) where
+  pub reply-by : n ≡ figureRefusedBy a → n ≡ figureRefusedBy b
+  reply-by h = h ∙ ap figureRefusedBy e
 
   pub reply-given : n ≡ given a → n ≡ given b
   reply-given h = h ∙ ap given e
@@ -147,13 +147,13 @@ codes-tell : (a b : judged.Judgement) → Bounded a → Bounded b → judgedCode
 unfolding judgedCode judgedPlace
 codes-tell (judged.soundAt c) (judged.soundAt d) h g e q = ap judged.soundAt e
 codes-tell (judged.soundAt c) (judged.breaks n) h g e q = absurd (omega arith)
-codes-tell (judged.soundAt c) (judged.rejected n s) h g e q = absurd (omega arith)
+codes-tell (judged.soundAt c) (judged.refusedGrid n s) h g e q = absurd (omega arith)
 codes-tell (judged.breaks m) (judged.soundAt d) h g e q = absurd (omega arith)
 codes-tell (judged.breaks m) (judged.breaks n) h g e q = ap judged.breaks (omega arith)
-codes-tell (judged.breaks m) (judged.rejected n s) h g e q = absurd (omega arith)
-codes-tell (judged.rejected m r) (judged.soundAt d) h g e q = absurd (omega arith)
-codes-tell (judged.rejected m r) (judged.breaks n) h g e q = absurd (omega arith)
-codes-tell (judged.rejected m r) (judged.rejected n s) h g e q = ap₂ judged.rejected (omega arith) q
+codes-tell (judged.breaks m) (judged.refusedGrid n s) h g e q = absurd (omega arith)
+codes-tell (judged.refusedGrid m r) (judged.soundAt d) h g e q = absurd (omega arith)
+codes-tell (judged.refusedGrid m r) (judged.breaks n) h g e q = absurd (omega arith)
+codes-tell (judged.refusedGrid m r) (judged.refusedGrid n s) h g e q = ap₂ judged.refusedGrid (omega arith) q
 
 -- so two answers of the judge with the same number and place are the same
 pub answers-tell : (ws g vs h : List ℕ) → judgedCode (judged.judgeOf ws g) ≡ judgedCode (judged.judgeOf vs h)
@@ -167,7 +167,7 @@ pub quote-below : (a : Quoted) → quotes.Bounded a → quotedCode a < 922337203
 unfolding quotedCode
 quote-below none h = omega arith
 quote-below (quoted n c) h = omega (arith, h .0, h .1)
-quote-below (denied n s) h = absurd h
+quote-below (refusedQuote n s) h = absurd h
 
 -- and two quotes for accepted files with the same number are the same
 pub quotes-tell : (a b : Quoted) → quotes.Bounded a → quotes.Bounded b → quotedCode a ≡ quotedCode b → a ≡ b
@@ -176,6 +176,6 @@ quotes-tell none none h g e = refl
 quotes-tell none (quoted n c) h g e = absurd (omega (arith, g .0, g .1))
 quotes-tell (quoted n c) none h g e = absurd (omega (arith, h .0, h .1))
 quotes-tell (quoted n c) (quoted m d) h g e = ap₂ quoted (omega (arith, h .0, g .0)) (omega (arith, h .0, g .0))
-quotes-tell (denied n s) b h g e = absurd h
-quotes-tell none (denied n s) h g e = absurd g
-quotes-tell (quoted n c) (denied m s) h g e = absurd g
+quotes-tell (refusedQuote n s) b h g e = absurd h
+quotes-tell none (refusedQuote n s) h g e = absurd g
+quotes-tell (quoted n c) (refusedQuote m s) h g e = absurd g

@@ -1,10 +1,10 @@
 // Answers as plain numbers, for callers that have no enums: a refusal's number and its place, the number given, a judgement and a quote as one
 // number each.
 ghost use mathlib.Core.Path.{_≡_};
-ghost use Rattle.decoder.specs.Answers.{verdictOf, replyOf};
+ghost use Rattle.decoder.specs.Answers.{verdictOf, figureOf};
 ghost use Rattle.checker.specs.Answers.{judgementOf};
 ghost use Rattle.quotes.specs.Answers.{quotedOf};
-ghost use Rattle.codes.specs.Codes.{refusedBy, refusedAt, deniedBy, given, judgedCode, judgedPlace, quotedCode};
+ghost use Rattle.codes.specs.Codes.{refusedBy, refusedAt, figureRefusedBy, given, judgedCode, judgedPlace, quotedCode};
 
 // The number of a verdict's refusal.
 pub fn refusal_number(v: decoder::Verdict) -> u32
@@ -27,33 +27,33 @@ pub fn refusal_place(v: decoder::Verdict) -> usize
 }
 
 // The number of a reply's refusal.
-pub fn denial_number(reply: decoder::Reply) -> u32
-    ensures { λ r. ⌜ r ≡ deniedBy (replyOf reply) ⌝ }
+pub fn figure_refusal(reply: decoder::Figure) -> u32
+    ensures { λ r. ⌜ r ≡ figureRefusedBy (figureOf reply) ⌝ }
 {
     match reply {
-        decoder::Reply::Number(n) => 0,
-        decoder::Reply::Denied(number, place) => number,
+        decoder::Figure::Number(n) => 0,
+        decoder::Figure::Refused(number, place) => number,
     }
 }
 
 // The number that a reply gives, 0 where it is a refusal.
-pub fn number_given(reply: decoder::Reply) -> usize
-    ensures { λ r. ⌜ r ≡ given (replyOf reply) ⌝ }
+pub fn number_given(reply: decoder::Figure) -> usize
+    ensures { λ r. ⌜ r ≡ given (figureOf reply) ⌝ }
 {
     match reply {
-        decoder::Reply::Number(n) => n,
-        decoder::Reply::Denied(number, place) => 0,
+        decoder::Figure::Number(n) => n,
+        decoder::Figure::Refused(number, place) => 0,
     }
 }
 
-// A judgement as one number.
+// A judgement as one number (D36).
 pub fn judgement_code(j: checker::Judgement) -> u64
     ensures { λ r. ⌜ r ≡ judgedCode (judgementOf j) ⌝ }
 {
     match j {
         checker::Judgement::Sound(cost) => cost,
         checker::Judgement::Breaks(number) => 4294967296 + number as u64,
-        checker::Judgement::Rejected(number, place) => 8589934592 + number as u64,
+        checker::Judgement::Refused(number, place) => 8589934592 + number as u64,
     }
 }
 
@@ -64,7 +64,7 @@ pub fn judgement_place(j: checker::Judgement) -> usize
     match j {
         checker::Judgement::Sound(cost) => 0,
         checker::Judgement::Breaks(number) => 0,
-        checker::Judgement::Rejected(number, place) => place,
+        checker::Judgement::Refused(number, place) => place,
     }
 }
 

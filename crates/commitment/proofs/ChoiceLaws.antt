@@ -9,14 +9,14 @@ use lib.Dec.{ltb}
 use borrow.Author.Tests.{ltb-true, ltb-false}
 use Rattle.sums.specs.Logic.{if}
 use Rattle.sums.specs.Sum.{sumTo, added}
-use Rattle.sums.specs.NumSet.{NumSet, pick, parts, away, numberOf, has}
+use Rattle.sums.specs.NumSet.{NumSet, onlyIn, parts, complement, numberOf, has}
 use Rattle.sums.proofs.LogicLaws.{true-false, not-at}
 use Rattle.sums.proofs.SumLaws.{sum-mono, sum-same, sum-added}
 use Rattle.sums.proofs.NumSetLaws.{pick-agree, number-below, number-has}
 use Rattle.model.specs.Problem.{Problem}
 use Rattle.model.specs.Rules.{output}
 use Rattle.model.specs.Commitment.{lineCost, fullCost, Serves}
-use Rattle.cover.specs.Cover.{Covers, Reached, Least}
+use Rattle.cover.specs.Cover.{Covers, Reached, LeastCover}
 use Rattle.commitment.specs.Score.{thrifty, decided}
 
 -- a unit's weight, and a run's score, for any scale and any ties
@@ -24,7 +24,7 @@ unfoldable pub weightFor : Problem → (scale : ℕ) → (tie : ℕ → ℕ) →
 weightFor p scale tie t i = (p .running t i - p .off t i) * scale + tie i
 
 unfoldable pub scoreFor : Problem → (scale : ℕ) → (tie : ℕ → ℕ) → ℕ → ℕ → ℕ
-scoreFor p scale tie t r = fullCost p t r * scale + sumTo (p .units) (pick (has r) tie)
+scoreFor p scale tie t r = fullCost p t r * scale + sumTo (p .units) (onlyIn (has r) tie)
 
 module _ (p : Problem) (scale : ℕ) (tie : ℕ → ℕ) (t : ℕ) where
   -- a unit's term of a score
@@ -32,13 +32,13 @@ module _ (p : Problem) (scale : ℕ) (tie : ℕ → ℕ) (t : ℕ) where
   term z i = if (z i) (p .running t i * scale + tie i) (p .off t i * scale)
 
   -- the score of a set of units is the sum of all units' terms
-  score-terms : (n : ℕ) (z : NumSet) → sumTo n (parts z (p .running t) (p .off t)) * scale + sumTo n (pick z tie) ≡ sumTo n (term z)
-  unfolding sumTo parts pick
+  score-terms : (n : ℕ) (z : NumSet) → sumTo n (parts z (p .running t) (p .off t)) * scale + sumTo n (onlyIn z tie) ≡ sumTo n (term z)
+  unfolding sumTo parts onlyIn
   score-terms zero z = omega arith
   score-terms (suc n) z = by (z n) (score-terms n z)
     where
-      by : (b : Bool) → sumTo n (parts z (p .running t) (p .off t)) * scale + sumTo n (pick z tie) ≡ sumTo n (term z)
-          → (sumTo n (parts z (p .running t) (p .off t)) + if b (p .running t n) (p .off t n)) * scale + (sumTo n (pick z tie) + if b (tie n) 0)
+      by : (b : Bool) → sumTo n (parts z (p .running t) (p .off t)) * scale + sumTo n (onlyIn z tie) ≡ sumTo n (term z)
+          → (sumTo n (parts z (p .running t) (p .off t)) + if b (p .running t n) (p .off t n)) * scale + (sumTo n (onlyIn z tie) + if b (tie n) 0)
           ≡ sumTo n (term z) + if b (p .running t n * scale + tie n) (p .off t n * scale)
       by true e = omega (arith, mul-add (sumTo n (parts z (p .running t) (p .off t))) (p .running t n))
         where
@@ -75,8 +75,8 @@ module _ (p : Problem) (scale : ℕ) (tie : ℕ → ℕ) (t : ℕ) where
 
     -- the thrifty units and the chosen ones weigh no more than the set, where the set avoids the units out
     unit-below : (z : NumSet) (i : ℕ) → i < p .units → (out i ≡ true → z i ≡ false)
-        → term (thrifty p t out) i + pick (chosen z) (weightFor p scale tie t) i ≤ term z i
-    unfolding thrifty pick weightFor
+        → term (thrifty p t out) i + onlyIn (chosen z) (weightFor p scale tie t) i ≤ term z i
+    unfolding thrifty onlyIn weightFor
     unit-below z i l free = go (out i) (ltb (p .running t i) (p .off t i)) (z i) refl free
       where
         go : (a b c : Bool) → ltb (p .running t i) (p .off t i) ≡ b → (a ≡ true → c ≡ false)
@@ -92,8 +92,8 @@ module _ (p : Problem) (scale : ℕ) (tie : ℕ → ℕ) (t : ℕ) where
 
     -- with the thrifty units added they weigh the same
     unit-joint : (z : NumSet) (i : ℕ) → i < p .units → (z i ≡ true → decided p t out i ≡ false)
-        → term (thrifty p t out) i + pick z (weightFor p scale tie t) i ≡ term (joint z) i
-    unfolding thrifty decided pick weightFor
+        → term (thrifty p t out) i + onlyIn z (weightFor p scale tie t) i ≡ term (joint z) i
+    unfolding thrifty decided onlyIn weightFor
     unit-joint z i l choice = go (out i) (ltb (p .running t i) (p .off t i)) (z i) refl choice
       where
         go : (a b c : Bool) → ltb (p .running t i) (p .off t i) ≡ b → (c ≡ true → (a || (not a && b)) ≡ false)
@@ -117,36 +117,36 @@ module _ (p : Problem) (scale : ℕ) (tie : ℕ → ℕ) (t : ℕ) where
     needed = p .demand t - output p t (thrifty p t out)
 
     sets-below : (z : NumSet) → ((i : ℕ) → i < p .units → out i ≡ true → z i ≡ false)
-        → base + sumTo (p .units) (pick (chosen z) (weightFor p scale tie t)) ≤ sumTo (p .units) (term z)
+        → base + sumTo (p .units) (onlyIn (chosen z) (weightFor p scale tie t)) ≤ sumTo (p .units) (term z)
     unfolding added
     sets-below z free = omega (
       arith,
-      sum-added (p .units) (term (thrifty p t out)) (pick (chosen z) (weightFor p scale tie t)),
-      sum-mono (p .units) (added (term (thrifty p t out)) (pick (chosen z) (weightFor p scale tie t))) (term z) (λ i l. unit-below z i l (free i l)),
+      sum-added (p .units) (term (thrifty p t out)) (onlyIn (chosen z) (weightFor p scale tie t)),
+      sum-mono (p .units) (added (term (thrifty p t out)) (onlyIn (chosen z) (weightFor p scale tie t))) (term z) (λ i l. unit-below z i l (free i l)),
     )
 
     sets-joint : (z : NumSet) → ((i : ℕ) → i < p .units → z i ≡ true → decided p t out i ≡ false)
-        → base + sumTo (p .units) (pick z (weightFor p scale tie t)) ≡ sumTo (p .units) (term (joint z))
+        → base + sumTo (p .units) (onlyIn z (weightFor p scale tie t)) ≡ sumTo (p .units) (term (joint z))
     unfolding added
     sets-joint z choice = omega (
       arith,
-      sum-added (p .units) (term (thrifty p t out)) (pick z (weightFor p scale tie t)),
-      sum-same (p .units) (added (term (thrifty p t out)) (pick z (weightFor p scale tie t))) (term (joint z)) (λ i l. unit-joint z i l (choice i l)),
+      sum-added (p .units) (term (thrifty p t out)) (onlyIn z (weightFor p scale tie t)),
+      sum-same (p .units) (added (term (thrifty p t out)) (onlyIn z (weightFor p scale tie t))) (term (joint z)) (λ i l. unit-joint z i l (choice i l)),
     )
 
     -- ---- runs and covers
 
     -- the chosen units of a run cover what is still needed
-    serves-covers : (r : ℕ) → Serves p t out r → Covers (away (decided p t out)) (p .capacity t) (p .units) needed (chosen (has r))
-    unfolding output away decided thrifty pick added
+    serves-covers : (r : ℕ) → Serves p t out r → Covers (complement (decided p t out)) (p .capacity t) (p .units) needed (chosen (has r))
+    unfolding output complement decided thrifty onlyIn added
     serves-covers r s = record {
       allowed = λ i l e. go (out i) (ltb (p .running t i) (p .off t i)) (has r i) (s .run .free i l) e;
       enough = omega (
         arith,
         s .meets,
-        sum-mono (p .units) (pick (has r) (p .capacity t))
-            (added (pick (thrifty p t out) (p .capacity t)) (pick (chosen (has r)) (p .capacity t))) (λ i l. part i),
-        sum-added (p .units) (pick (thrifty p t out) (p .capacity t)) (pick (chosen (has r)) (p .capacity t)),
+        sum-mono (p .units) (onlyIn (has r) (p .capacity t))
+            (added (onlyIn (thrifty p t out) (p .capacity t)) (onlyIn (chosen (has r)) (p .capacity t))) (λ i l. part i),
+        sum-added (p .units) (onlyIn (thrifty p t out) (p .capacity t)) (onlyIn (chosen (has r)) (p .capacity t)),
       );
     }
       where
@@ -157,7 +157,7 @@ module _ (p : Problem) (scale : ℕ) (tie : ℕ → ℕ) (t : ℕ) where
         go false true false f e = true-false (sym e)
         go false false c f e = refl
 
-        part : (i : ℕ) → pick (has r) (p .capacity t) i ≤ added (pick (thrifty p t out) (p .capacity t)) (pick (chosen (has r)) (p .capacity t)) i
+        part : (i : ℕ) → onlyIn (has r) (p .capacity t) i ≤ added (onlyIn (thrifty p t out) (p .capacity t)) (onlyIn (chosen (has r)) (p .capacity t)) i
         part i = at (has r i) (thrifty p t out i)
           where
             at : (c b : Bool) → if c (p .capacity t i) 0 ≤ if b (p .capacity t i) 0 + if (c && not b) (p .capacity t i) 0
@@ -166,7 +166,7 @@ module _ (p : Problem) (scale : ℕ) (tie : ℕ → ℕ) (t : ℕ) where
             at false b = omega arith
 
     -- no run has a smaller score than the thrifty units and the least cover
-    pub least-below : (v : ℕ) → Least (away (decided p t out)) (p .capacity t) (weightFor p scale tie t) (p .units) needed v
+    pub least-below : (v : ℕ) → LeastCover (complement (decided p t out)) (p .capacity t) (weightFor p scale tie t) (p .units) needed v
         → (r : ℕ) → Serves p t out r → base + v ≤ scoreFor p scale tie t r
     least-below v l r s = omega (
       arith,
@@ -182,8 +182,8 @@ module _ (p : Problem) (scale : ℕ) (tie : ℕ → ℕ) (t : ℕ) where
       pub score : base + v ≡ scoreFor p scale tie t run
 
     -- a cover of what is still needed, with the thrifty units, is a run of that score
-    pub reached-scored : (v : ℕ) → Reached (away (decided p t out)) (p .capacity t) (weightFor p scale tie t) (p .units) needed 0 v → Reaching v
-    unfolding output away decided thrifty pick added
+    pub reached-scored : (v : ℕ) → Reached (complement (decided p t out)) (p .capacity t) (weightFor p scale tie t) (p .units) needed 0 v → Reaching v
+    unfolding output complement decided thrifty onlyIn added
     reached-scored v c = record {
       run = number;
       serves = record {
@@ -195,9 +195,9 @@ module _ (p : Problem) (scale : ℕ) (tie : ℕ → ℕ) (t : ℕ) where
           arith,
           c .covers .enough,
           pick-agree (p .units) (joint (c .set)) (has number) (p .capacity t) (number-has (p .units) (joint (c .set))),
-          sum-same (p .units) (pick (joint (c .set)) (p .capacity t))
-              (added (pick (thrifty p t out) (p .capacity t)) (pick (c .set) (p .capacity t))) (λ i l. part i l),
-          sum-added (p .units) (pick (thrifty p t out) (p .capacity t)) (pick (c .set) (p .capacity t)),
+          sum-same (p .units) (onlyIn (joint (c .set)) (p .capacity t))
+              (added (onlyIn (thrifty p t out) (p .capacity t)) (onlyIn (c .set) (p .capacity t))) (λ i l. part i l),
+          sum-added (p .units) (onlyIn (thrifty p t out) (p .capacity t)) (onlyIn (c .set) (p .capacity t)),
         );
       };
       score = omega (
@@ -219,7 +219,7 @@ module _ (p : Problem) (scale : ℕ) (tie : ℕ → ℕ) (t : ℕ) where
         free false b d e f = true-false (sym e)
 
         part : (i : ℕ) → i < p .units
-            → pick (joint (c .set)) (p .capacity t) i ≡ added (pick (thrifty p t out) (p .capacity t)) (pick (c .set) (p .capacity t)) i
+            → onlyIn (joint (c .set)) (p .capacity t) i ≡ added (onlyIn (thrifty p t out) (p .capacity t)) (onlyIn (c .set) (p .capacity t)) i
         part i l = at (out i) (ltb (p .running t i) (p .off t i)) (c .set i) (c .covers .allowed i l)
           where
             at : (a b d : Bool) → (d ≡ true → not (a || (not a && b)) ≡ true)

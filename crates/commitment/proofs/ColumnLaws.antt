@@ -9,11 +9,11 @@ use native.Mathlib.Omega.{arith}
 use lib.ListN.{length, set}
 use lib.Pow.{pow-mono}
 use Rattle.sums.specs.NumSet.{power}
+use Rattle.sums.specs.Table.{entry}
 use Rattle.sums.proofs.LoopLaws.{place-next}
 use Rattle.model.specs.declared.Layout.{Layout}
 use Rattle.model.specs.Words.{problemOf}
 use Rattle.instance.specs.Filed.{Filed}
-use Rattle.cover.specs.Tables.{entry}
 use Rattle.commitment.specs.Score.{scored, weightOf, Column}
 
 -- nothing yet

@@ -6,7 +6,7 @@ use mathlib.Core.Bool.{Bool, true, false}
 use mathlib.Core.List.{List}
 use native.Mathlib.Omega.{arith}
 use Rattle.sums.specs.Sum.{sumTo}
-use Rattle.sums.specs.NumSet.{pick, parts, has}
+use Rattle.sums.specs.NumSet.{onlyIn, parts, has}
 use Rattle.sums.proofs.SumLaws.{sum-zero}
 use Rattle.sums.proofs.NumSetLaws.{zero-has}
 use Rattle.model.specs.declared.Layout.{Layout}
@@ -45,9 +45,9 @@ full-nobody ws l t f none = sym (sum-zero (problemOf ws .units) (lineCost (probl
 -- nothing, where nobody runs
 pub need-nobody : (ws : List ℕ) (t need : ℕ) → need ≡ problemOf ws .demand t → (run : ℕ) → run ≡ 0
     → need ≡ problemOf ws .demand t - output (problemOf ws) t (has run)
-unfolding output pick
+unfolding output onlyIn
 need-nobody ws t need e run z =
     let p = problemOf ws in
-    let none : sumTo (p .units) (pick (has 0) (p .capacity t)) ≡ 0
-    = sum-zero (p .units) (pick (has 0) (p .capacity t)) (λ i h. rw (zero-has i)) in
+    let none : sumTo (p .units) (onlyIn (has 0) (p .capacity t)) ≡ 0
+    = sum-zero (p .units) (onlyIn (has 0) (p .capacity t)) (λ i h. rw (zero-has i)) in
     rw z (omega (arith, none))

@@ -10,7 +10,8 @@ use native.Mathlib.Omega.{arith}
 use lib.Pow.{pow-mono}
 use borrow.Author.Tests.{ltb-true}
 use Rattle.sums.specs.Logic.{if}
-use Rattle.sums.specs.NumSet.{NumSet, parts, away, power, numberOf, has}
+use Rattle.sums.specs.NumSet.{NumSet, parts, complement, power, numberOf, has}
+use Rattle.sums.specs.Table.{entry}
 use Rattle.sums.proofs.SumLaws.{sum-at-most, sum-same}
 use Rattle.sums.proofs.NumSetLaws.{number-own}
 use Rattle.model.specs.declared.Layout.{Layout}
@@ -22,8 +23,7 @@ use Rattle.model.proofs.CommitmentLaws.{run-full, full-of, full-none, full-boun
 use Rattle.model.proofs.FileLaws.{ranged}
 use Rattle.sets.specs.Sets.{SETS}
 use Rattle.instance.specs.Filed.{Filed}
-use Rattle.cover.specs.Cover.{UNCOVERED, Least}
-use Rattle.cover.specs.Tables.{entry}
+use Rattle.cover.specs.Cover.{UNCOVERED, LeastCover}
 use Rattle.cover.proofs.CoverLaws.{least-agree, least-free}
 use Rattle.commitment.specs.Score.{SCALE, scored, costIn, numberIn, scoreOf, weightOf, thrifty, ThriftyRun, decided, LeastWeight, Scored, LeastScore, Column}
 use Rattle.commitment.proofs.ChoiceLaws.{weightFor, scoreFor, term, score-sum, base, least-below, reached-scored}
@@ -133,16 +133,16 @@ module _ (ws : List ℕ) (l : Layout) (t out : ℕ) (f : Filed ws l) where
   pub weight-least : (thrifty both need v : ℕ) (caps weights : List ℕ) → ThriftyRun (problemOf ws) t (has out) thrifty
       → Column (l .units) (problemOf ws .capacity t) caps → Column (l .units) (weightOf (problemOf ws) t) weights
       → need ≡ problemOf ws .demand t - output (problemOf ws) t (has thrifty) → ((k : ℕ) → has both k ≡ (has out k || has thrifty k))
-      → Least (away (has both)) (entry caps) (entry weights) (l .units) need v → LeastWeight (problemOf ws) t (has out) v
+      → LeastCover (complement (has both)) (entry caps) (entry weights) (l .units) need v → LeastWeight (problemOf ws) t (has out) v
   weight-least r both need v caps weights run a b e join c =
       let p = problemOf ws in
       let left = p .demand t - output p t (thrifty p t (has out)) in
       let n : need ≡ left = e ∙ ap (λ (z : ℕ). p .demand t - z) (thrifty-output p t r (has out) run) in
-      subst (λ (u : ℕ). Least (away (decided p t (has out))) (p .capacity t) (weightOf p t) u left v) (sym (f .units-are))
-      (subst (λ (z : ℕ). Least (away (decided p t (has out))) (p .capacity t) (weightOf p t) (l .units) z v) n
-      (least-free (away (has both)) (away (decided p t (has out))) (p .capacity t) (weightOf p t) (l .units) need v
+      subst (λ (u : ℕ). LeastCover (complement (decided p t (has out))) (p .capacity t) (weightOf p t) u left v) (sym (f .units-are))
+      (subst (λ (z : ℕ). LeastCover (complement (decided p t (has out))) (p .capacity t) (weightOf p t) (l .units) z v) n
+      (least-free (complement (has both)) (complement (decided p t (has out))) (p .capacity t) (weightOf p t) (l .units) need v
       (λ i d. thrifty-decided p t r (has out) run both out refl join i (omega arith))
-      (least-agree (away (has both)) (entry caps) (p .capacity t) (entry weights) (weightOf p t) (l .units) need v (a .holds) (b .holds) c)))
+      (least-agree (complement (has both)) (entry caps) (p .capacity t) (entry weights) (weightOf p t) (l .units) need v (a .holds) (b .holds) c)))
 
   -- the number of the thrifty units fits
   pub thrifty-fits : (r : ℕ) → ThriftyRun (problemOf ws) t (has out) r → r < SETS

@@ -7,7 +7,7 @@ use mathlib.Core.List.{List}
 use native.Mathlib.Nat.{mul-le-mul-right}
 use native.Mathlib.Omega.{arith}
 use Rattle.sums.specs.Sum.{sumTo, countsOne}
-use Rattle.sums.specs.NumSet.{pick, has, with}
+use Rattle.sums.specs.NumSet.{onlyIn, has, with}
 use Rattle.sums.proofs.SumLaws.{sum-zero}
 use Rattle.sums.proofs.NumSetLaws.{zero-has, sum-over, sum-joined, with-same}
 use Rattle.model.specs.declared.Layout.{Layout}
@@ -22,10 +22,10 @@ use Rattle.commitment.specs.Tally.{noTally, Tallies}
 
 -- nobody is out, at no cost
 pub tally-none : (p : Problem) (t : ℕ) → Tallies p t noTally
-unfolding headcount outCost pick
+unfolding headcount outCost onlyIn
 tally-none p t = record {
-  many = sym (sum-zero (p .units) (pick (has 0) countsOne) (λ i l. rw (zero-has i)));
-  sum = sym (sum-zero (p .units) (pick (has 0) (p .maint t)) (λ i l. rw (zero-has i)));
+  many = sym (sum-zero (p .units) (onlyIn (has 0) countsOne) (λ i l. rw (zero-has i)));
+  sum = sym (sum-zero (p .units) (onlyIn (has 0) (p .maint t)) (λ i l. rw (zero-has i)));
 }
 
 -- a unit that is out already changes nothing
@@ -34,7 +34,7 @@ joined-same out i b e is k = sym (with-same (has out) i (sym is ∙ e) k)
 
 module _ (ws : List ℕ) (l : Layout) (t i out r : ℕ) (b : Bool) (f : Filed ws l) (h : i < l .units) (e : b ≡ false) (is : b ≡ has out i)
     (j : (k : ℕ) → has r k ≡ with (has out) i k) where
-  joined : (g : ℕ → ℕ) → sumTo (problemOf ws .units) (pick (has r) g) ≡ sumTo (problemOf ws .units) (pick (has out) g) + g i
+  joined : (g : ℕ → ℕ) → sumTo (problemOf ws .units) (onlyIn (has r) g) ≡ sumTo (problemOf ws .units) (onlyIn (has out) g) + g i
   joined g = sum-joined (problemOf ws .units) i (has out) (has r) g (rw (f .units-are) h) (sym is ∙ e) j
 
   -- one more is out

@@ -11,7 +11,7 @@ use lib.Pow.{pow-pos, pow-mono}
 use borrow.Author.Tests.{eq-eqb, ne-eqb, lt-ltb, le-ltb}
 use Rattle.sums.specs.Sum.{sumTo, shifted}
 use Rattle.sums.specs.Range.{someTo}
-use Rattle.sums.specs.NumSet.{NumSet, pick, away, with, power, numberOf, has}
+use Rattle.sums.specs.NumSet.{NumSet, onlyIn, complement, with, power, numberOf, has}
 use Rattle.sums.proofs.LogicLaws.{true-false, or-last-false, not-so, and-left, and-right, and-last-false}
 use Rattle.sums.proofs.LoopLaws.{Gathered, gathered-ended}
 use Rattle.sums.proofs.RangeLaws.{some-of, first-is}
@@ -90,17 +90,17 @@ module _ (p : Problem) (t r : ℕ) (out : NumSet) (all : (j : ℕ) → has r j �
 
   -- so their number is that of a run
   all-run : r < 4294967296 → p .units ≤ 16 → r < 2 ^ p .units
-  unfolding numberOf pick shifted
+  unfolding numberOf onlyIn shifted
   all-run l few =
       let e : p .units + (32 - p .units) ≡ 32 = omega arith in
       let whole : numberOf 32 (has r) ≡ r = number-own 32 r (omega arith) in
-      let cut : sumTo (p .units + (32 - p .units)) (pick (has r) power)
-      ≡ sumTo (p .units) (pick (has r) power) + sumTo (32 - p .units) (shifted (p .units) (pick (has r) power))
-      = sum-cut (p .units) (32 - p .units) (pick (has r) power) in
-      let zero : sumTo (32 - p .units) (shifted (p .units) (pick (has r) power)) ≡ 0
-      = sum-zero (32 - p .units) (shifted (p .units) (pick (has r) power)) (λ k h. rw (none-above (p .units + k) (omega arith))) in
-      let same : sumTo 32 (pick (has r) power) ≡ sumTo (p .units + (32 - p .units)) (pick (has r) power)
-      = ap (λ (n : ℕ). sumTo n (pick (has r) power)) (sym e) in
+      let cut : sumTo (p .units + (32 - p .units)) (onlyIn (has r) power)
+      ≡ sumTo (p .units) (onlyIn (has r) power) + sumTo (32 - p .units) (shifted (p .units) (onlyIn (has r) power))
+      = sum-cut (p .units) (32 - p .units) (onlyIn (has r) power) in
+      let zero : sumTo (32 - p .units) (shifted (p .units) (onlyIn (has r) power)) ≡ 0
+      = sum-zero (32 - p .units) (shifted (p .units) (onlyIn (has r) power)) (λ k h. rw (none-above (p .units + k) (omega arith))) in
+      let same : sumTo 32 (onlyIn (has r) power) ≡ sumTo (p .units + (32 - p .units)) (onlyIn (has r) power)
+      = ap (λ (n : ℕ). sumTo n (onlyIn (has r) power)) (sym e) in
       omega (arith, whole, cut, zero, same, number-below (p .units) (has r))
 
 -- the loop's end
@@ -138,8 +138,8 @@ module _ (p : Problem) (t r : ℕ) (out : NumSet) (run : ThriftyRun p t out r) w
 
   -- with the units out they are those that are no choice
   pub thrifty-decided : (both o : ℕ) → out ≡ has o → ((k : ℕ) → has both k ≡ (has o k || has r k)) → (i : ℕ) → i < p .units
-      → away (has both) i ≡ away (decided p t out) i
-  unfolding away decided
+      → complement (has both) i ≡ complement (decided p t out) i
+  unfolding complement decided
   thrifty-decided both o e join i l = ap not (join i ∙ same)
     where
       same : (has o i || has r i) ≡ (out i || thrifty p t out i)

@@ -7,12 +7,12 @@ use mathlib.Core.Path.{_≡_}
 use mathlib.Core.Bool.{Bool, not, _&&_, _||_}
 use mathlib.Core.List.{List}
 use lib.Dec.{ltb, eqb}
-use Rattle.sums.specs.NumSet.{NumSet, away, power, has}
+use Rattle.sums.specs.NumSet.{NumSet, complement, power, has}
+use Rattle.sums.specs.Table.{entry}
 use Rattle.model.specs.Problem.{Problem}
 use Rattle.model.specs.Commitment.{fullCost, Serves}
 use Rattle.model.specs.Rules.{output}
-use Rattle.cover.specs.Cover.{UNCOVERED, Least}
-use Rattle.cover.specs.Tables.{entry}
+use Rattle.cover.specs.Cover.{UNCOVERED, LeastCover}
 
 -- ---- scores
 
@@ -63,7 +63,7 @@ decided p t out i = out i || thrifty p t out i
 
 -- v is the least weight of a cover, by units that are neither out nor thrifty, of what the thrifty units leave of the demand
 abbrev pub LeastWeight : Problem → (t : ℕ) → NumSet → ℕ → Type 0
-LeastWeight p t out v = Least (away (decided p t out)) (p .capacity t) (weightOf p t) (p .units) (p .demand t - output p t (thrifty p t out)) v
+LeastWeight p t out v = LeastCover (complement (decided p t out)) (p .capacity t) (weightOf p t) (p .units) (p .demand t - output p t (thrifty p t out)) v
 
 -- a run with this score
 pub record Scored (p : Problem) (t : ℕ) (out : NumSet) (v : ℕ) : Type 0 where

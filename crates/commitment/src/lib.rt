@@ -58,7 +58,7 @@ impl Tally {
 }
 
 // A week's cheapest run, by its number, with its cost; or nothing, where the units that are not out fall short even together.
-pub enum Found {
+pub enum BestRun {
     Nothing,
     Run(u32, Euro),
 }
@@ -90,7 +90,7 @@ fn next_number(number: u64) -> u64
 // What a euro counts in a score: more than any run's number.
 const SCALE: u64 = 65536;
 
-// The score of a run: what it costs with all other units OFF, and its number.
+// The score of a run: what it costs with all other units OFF, and its number (D46).
 fn score(cost: Euro, number: u64) -> u64
     requires { ⌜ (cost .0 ≤ 4000000) × (number < SCALE) ⌝ }
     ensures { λ r. ⌜ (r ≡ scored (cost .0) number) × (r < UNCOVERED) ⌝ }
@@ -157,7 +157,7 @@ fn thrifty_with(words: &[u32], l: Layout, t: usize, out: u32, i: usize, found: u
     found
 }
 
-// The units that cost less running than OFF, of those not out.
+// The units that cost less running than OFF, of those not out (D88).
 fn thrifty_run(words: &[u32], l: Layout, t: usize, out: u32) -> u32
     requires { ⌜ Filed (now words) l ⌝ }
     requires { ⌜ t < l .weeks ⌝ }
@@ -232,7 +232,7 @@ fn least_weight(words: &[u32], l: Layout, t: usize, out: u32, thrifty: u32) -> u
     cover::least(&caps, &table, l.units, decided, need)
 }
 
-// The least score of a run of week t with these units out.
+// The least score of a run of week t with these units out (D89).
 fn least_score(words: &[u32], l: Layout, t: usize, out: u32) -> u64
     requires { ⌜ Filed (now words) l ⌝ }
     requires { ⌜ t < l .weeks ⌝ }
@@ -250,8 +250,8 @@ fn least_score(words: &[u32], l: Layout, t: usize, out: u32) -> u64
     score(full_cost(words, l, t, thrifty), thrifty as u64) + least
 }
 
-// The cheapest run of week t with these units out; of equals the one with the smallest number.
-pub fn cheapest(words: &[u32], l: Layout, t: usize, out: u32) -> Found
+// The cheapest run of week t with these units out; of equals the one with the smallest number (D47).
+pub fn cheapest(words: &[u32], l: Layout, t: usize, out: u32) -> BestRun
     requires { ⌜ Filed (now words) l ⌝ }
     requires { ⌜ t < l .weeks ⌝ }
     ensures { λ r. ⌜ Answers (problemOf (now (words .entry))) t (has out) r ⌝ }
@@ -259,9 +259,9 @@ pub fn cheapest(words: &[u32], l: Layout, t: usize, out: u32) -> Found
     let score = least_score(words, l, t, out);
     if score < UNCOVERED {
         let off = instance::off_sum(words, l, t, out);
-        return Found::Run(number_in(score), cost_in(score).less(off));
+        return BestRun::Run(number_in(score), cost_in(score).less(off));
     }
-    Found::Nothing
+    BestRun::Nothing
 }
 
 // What the cheapest run costs with OFF charged to the units out too, NO_RUN where there is none: UNCOVERED stands for the score then, and the

@@ -11,21 +11,21 @@ use lib.Dec.{ltb, eqb}
 use borrow.Author.Tests.{ltb-true, ltb-false, le-ltb, eq-eqb, ne-eqb}
 use Rattle.sums.specs.Logic.{if}
 use Rattle.sums.specs.Sum.{sumTo}
-use Rattle.sums.specs.NumSet.{NumSet, pick, with, without}
+use Rattle.sums.specs.NumSet.{NumSet, onlyIn, with, without}
 use Rattle.sums.proofs.LogicLaws.{true-false}
 use Rattle.sums.proofs.SumLaws.{sum-same}
 use Rattle.sums.proofs.NumSetLaws.{pick-agree, with-at, with-else, without-at, without-else}
-use Rattle.cover.specs.Cover.{Covers, Reached, UNCOVERED, Candidate, Least, settled, coverTo}
+use Rattle.cover.specs.Cover.{Covers, Reached, UNCOVERED, Candidate, LeastCover, lighterCover, coverTo}
 
 -- ---- a set with unit k left out, and with it taken
 
 -- a sum over the units below k + 1, by what the set does with unit k
-sum-passed : (k : ℕ) (z : NumSet) (f : ℕ → ℕ) → z k ≡ false → sumTo (suc k) (pick z f) ≡ sumTo k (pick z f)
-unfolding sumTo pick
+sum-passed : (k : ℕ) (z : NumSet) (f : ℕ → ℕ) → z k ≡ false → sumTo (suc k) (onlyIn z f) ≡ sumTo k (onlyIn z f)
+unfolding sumTo onlyIn
 sum-passed k z f e = rw e (omega arith)
 
-sum-taken : (k : ℕ) (z : NumSet) (f : ℕ → ℕ) → z k ≡ true → sumTo (suc k) (pick z f) ≡ sumTo k (pick z f) + f k
-unfolding sumTo pick
+sum-taken : (k : ℕ) (z : NumSet) (f : ℕ → ℕ) → z k ≡ true → sumTo (suc k) (onlyIn z f) ≡ sumTo k (onlyIn z f) + f k
+unfolding sumTo onlyIn
 sum-taken k z f e = rw e
 
 without-below : (k : ℕ) (z : NumSet) (i : ℕ) → i < k → without z k i ≡ z i
@@ -34,10 +34,10 @@ without-below k z i h = without-else z k i (λ e. omega arith)
 with-below : (k : ℕ) (z : NumSet) (i : ℕ) → i < k → with z k i ≡ z i
 with-below k z i h = with-else z k i (λ e. omega arith)
 
-without-sum : (k : ℕ) (z : NumSet) (f : ℕ → ℕ) → sumTo (suc k) (pick (without z k) f) ≡ sumTo k (pick z f)
+without-sum : (k : ℕ) (z : NumSet) (f : ℕ → ℕ) → sumTo (suc k) (onlyIn (without z k) f) ≡ sumTo k (onlyIn z f)
 without-sum k z f = sum-passed k (without z k) f (without-at z k) ∙ pick-agree k z (without z k) f (without-below k z)
 
-with-sum : (k : ℕ) (z : NumSet) (f : ℕ → ℕ) → sumTo (suc k) (pick (with z k) f) ≡ sumTo k (pick z f) + f k
+with-sum : (k : ℕ) (z : NumSet) (f : ℕ → ℕ) → sumTo (suc k) (onlyIn (with z k) f) ≡ sumTo k (onlyIn z f) + f k
 with-sum k z f = sum-taken k (with z k) f (with-at z k) ∙ ap (λ (a : ℕ). a + f k) (pick-agree k z (with z k) f (with-below k z))
 
 module _ (free : NumSet) (gives weighs : ℕ → ℕ) where
@@ -86,16 +86,16 @@ module _ (free : NumSet) (gives weighs : ℕ → ℕ) where
   nothing-covers : (need : ℕ) → need ≡ 0 → Covers free gives 0 need (λ i. false)
   nothing-covers need e = record { allowed = λ i l. absurd (omega arith); enough = omega arith }
 
-  settled-dull : (need weight best : ℕ) → (need ≡ 0 → best ≤ weight) → best ≡ settled need weight best
-  unfolding settled
+  settled-dull : (need weight best : ℕ) → (need ≡ 0 → best ≤ weight) → best ≡ lighterCover need weight best
+  unfolding lighterCover
   settled-dull need weight best h = by (ℕ-discrete need 0)
     where
       by : Dec (need ≡ 0) → best ≡ if (eqb need 0 && ltb weight best) weight best
       by (yes e) = rw (eq-eqb need 0 e, le-ltb weight best (h e))
       by (no n) = rw (ne-eqb need 0 n)
 
-  dull-more : (k need weight best : ℕ) → ((z : NumSet) → Covers free gives (suc k) need z → best ≤ weight + sumTo (suc k) (pick z weighs))
-      → ((n w : ℕ) → ((z : NumSet) → Covers free gives k n z → best ≤ w + sumTo k (pick z weighs)) → best ≡ coverTo free gives weighs k n w best)
+  dull-more : (k need weight best : ℕ) → ((z : NumSet) → Covers free gives (suc k) need z → best ≤ weight + sumTo (suc k) (onlyIn z weighs))
+      → ((n w : ℕ) → ((z : NumSet) → Covers free gives k n z → best ≤ w + sumTo k (onlyIn z weighs)) → best ≡ coverTo free gives weighs k n w best)
       → best ≡ coverTo free gives weighs (suc k) need weight best
   dull-more k need weight best h ih = by (free k) refl
     where
@@ -110,7 +110,7 @@ module _ (free : NumSet) (gives weighs : ℕ → ℕ) where
       by true e = high e ∙ ap (coverTo free gives weighs k (need - gives k) (weight + weighs k)) low ∙ sym (cover-taken k need weight best e)
 
   -- where every cover weighs as much as the best or more, the choice leaves the best as it is
-  pub cover-dull : (k need weight best : ℕ) → ((z : NumSet) → Covers free gives k need z → best ≤ weight + sumTo k (pick z weighs))
+  pub cover-dull : (k need weight best : ℕ) → ((z : NumSet) → Covers free gives k need z → best ≤ weight + sumTo k (onlyIn z weighs))
       → best ≡ coverTo free gives weighs k need weight best
   unfolding coverTo sumTo
   cover-dull zero need weight best h = settled-dull need weight best (λ e. omega (arith, h (λ i. false) (nothing-covers need e)))
@@ -129,7 +129,7 @@ module _ (free : NumSet) (gives weighs : ℕ → ℕ) where
 
   -- never more than the best so far
   pub cover-most : (k need weight best : ℕ) → coverTo free gives weighs k need weight best ≤ best
-  unfolding coverTo settled
+  unfolding coverTo lighterCover
   cover-most zero need weight best = by (eqb need 0) (ltb weight best) refl
     where
       by : (a b : Bool) → ltb weight best ≡ b → if (a && b) weight best ≤ best
@@ -139,19 +139,19 @@ module _ (free : NumSet) (gives weighs : ℕ → ℕ) where
   cover-most (suc k) need weight best = most-more k need weight best (cover-most k)
 
   least-more : (k need weight best : ℕ) (z : NumSet) → Covers free gives (suc k) need z
-      → ((n w b : ℕ) → Covers free gives k n z → coverTo free gives weighs k n w b ≤ w + sumTo k (pick z weighs))
-      → coverTo free gives weighs (suc k) need weight best ≤ weight + sumTo (suc k) (pick z weighs)
+      → ((n w b : ℕ) → Covers free gives k n z → coverTo free gives weighs k n w b ≤ w + sumTo k (onlyIn z weighs))
+      → coverTo free gives weighs (suc k) need weight best ≤ weight + sumTo (suc k) (onlyIn z weighs)
   least-more k need weight best z c ih = by (z k) refl
     where
-      low : z k ≡ false → coverTo free gives weighs k need weight best ≤ weight + sumTo (suc k) (pick z weighs)
+      low : z k ≡ false → coverTo free gives weighs k need weight best ≤ weight + sumTo (suc k) (onlyIn z weighs)
       low e = omega (arith, ih need weight best (covers-without e c), sum-passed k z weighs e)
 
-      passed : (b : Bool) → free k ≡ b → z k ≡ false → coverTo free gives weighs (suc k) need weight best ≤ weight + sumTo (suc k) (pick z weighs)
+      passed : (b : Bool) → free k ≡ b → z k ≡ false → coverTo free gives weighs (suc k) need weight best ≤ weight + sumTo (suc k) (onlyIn z weighs)
       passed false f e = rw (cover-passed k need weight best f) (low e)
       passed true f e = rw (cover-taken k need weight best f)
           (le-trans (cover-most k (need - gives k) (weight + weighs k) (coverTo free gives weighs k need weight best)) (low e))
 
-      by : (b : Bool) → z k ≡ b → coverTo free gives weighs (suc k) need weight best ≤ weight + sumTo (suc k) (pick z weighs)
+      by : (b : Bool) → z k ≡ b → coverTo free gives weighs (suc k) need weight best ≤ weight + sumTo (suc k) (onlyIn z weighs)
       by false e = passed (free k) refl e
       by true e = rw (cover-taken k need weight best (c .allowed k (omega arith) e))
           (omega (
@@ -162,8 +162,8 @@ module _ (free : NumSet) (gives weighs : ℕ → ℕ) where
 
   -- nor more than any cover weighs
   pub cover-least : (k need weight best : ℕ) (z : NumSet) → Covers free gives k need z
-      → coverTo free gives weighs k need weight best ≤ weight + sumTo k (pick z weighs)
-  unfolding coverTo sumTo settled
+      → coverTo free gives weighs k need weight best ≤ weight + sumTo k (onlyIn z weighs)
+  unfolding coverTo sumTo lighterCover
   cover-least zero need weight best z c = by (ltb weight best) refl
     where
       by : (b : Bool) → ltb weight best ≡ b → if (eqb need 0 && ltb weight best) weight best ≤ weight + 0
@@ -214,7 +214,7 @@ module _ (free : NumSet) (gives weighs : ℕ → ℕ) where
           (ih (need - gives k) (weight + weighs k) low))
 
   pub cover-found : (k need weight best : ℕ) → Found k need weight best (coverTo free gives weighs k need weight best)
-  unfolding coverTo settled sumTo
+  unfolding coverTo lighterCover sumTo
   cover-found zero need weight best = by (ℕ-discrete need 0) (ltb weight best) refl
     where
       by : Dec (need ≡ 0) → (b : Bool) → ltb weight best ≡ b → Found 0 need weight best (if (eqb need 0 && ltb weight best) weight best)
@@ -225,7 +225,7 @@ module _ (free : NumSet) (gives weighs : ℕ → ℕ) where
 
 -- the choice from a candidate on, with nothing taken yet
 pub least-found : (free : NumSet) (gives weighs : ℕ → ℕ) (k need r best : ℕ) → Candidate free gives weighs k need best
-    → r ≡ coverTo free gives weighs k need 0 best → Least free gives weighs k need r
+    → r ≡ coverTo free gives weighs k need 0 best → LeastCover free gives weighs k need r
 least-found free gives weighs k need r best c e = record {
   candidate = record { most = omega (arith, below, c .most); reached = λ l. by l (cover-found free gives weighs k need 0 best) };
   least = λ z a. omega (arith, e, cover-least free gives weighs k need 0 best z a);
@@ -239,7 +239,7 @@ least-found free gives weighs k need r best c e = record {
     by l (inl q) = subst (Reached free gives weighs k need 0) (sym (e ∙ q)) (c .reached (omega (arith, l, e, q)))
     by l (inr a) = subst (Reached free gives weighs k need 0) (sym e) a
 
-least-le : (free : NumSet) (gives weighs : ℕ → ℕ) (k need r s : ℕ) → Least free gives weighs k need r → Candidate free gives weighs k need s → r ≤ s
+least-le : (free : NumSet) (gives weighs : ℕ → ℕ) (k need r s : ℕ) → LeastCover free gives weighs k need r → Candidate free gives weighs k need s → r ≤ s
 least-le free gives weighs k need r s l c = by (decLt s UNCOVERED)
   where
     by : Dec (s < UNCOVERED) → r ≤ s
@@ -247,23 +247,23 @@ least-le free gives weighs k need r s l c = by (decLt s UNCOVERED)
     by (no h) = omega (arith, l .candidate .most)
 
 -- there is one least weight
-pub least-unique : (free : NumSet) (gives weighs : ℕ → ℕ) (k need r s : ℕ) → Least free gives weighs k need r
-    → Least free gives weighs k need s → r ≡ s
+pub least-unique : (free : NumSet) (gives weighs : ℕ → ℕ) (k need r s : ℕ) → LeastCover free gives weighs k need r
+    → LeastCover free gives weighs k need s → r ≡ s
 least-unique free gives weighs k need r s a b =
     omega (arith, least-le free gives weighs k need r s a (b .candidate), least-le free gives weighs k need s r b (a .candidate))
 
 -- ---- tables that agree below k
 
-terms-agree : (z : NumSet) (f g : ℕ → ℕ) (k : ℕ) → ((i : ℕ) → i < k → f i ≡ g i) → sumTo k (pick z f) ≡ sumTo k (pick z g)
-unfolding pick
-terms-agree z f g k h = sum-same k (pick z f) (pick z g) (λ i l. ap (λ (a : ℕ). if (z i) a 0) (h i l))
+terms-agree : (z : NumSet) (f g : ℕ → ℕ) (k : ℕ) → ((i : ℕ) → i < k → f i ≡ g i) → sumTo k (onlyIn z f) ≡ sumTo k (onlyIn z g)
+unfolding onlyIn
+terms-agree z f g k h = sum-same k (onlyIn z f) (onlyIn z g) (λ i l. ap (λ (a : ℕ). if (z i) a 0) (h i l))
 
 covers-agree : (free z : NumSet) (f g : ℕ → ℕ) (k need : ℕ) → ((i : ℕ) → i < k → f i ≡ g i) → Covers free f k need z → Covers free g k need z
 covers-agree free z f g k need h c = record { allowed = c .allowed; enough = omega (arith, c .enough, terms-agree z f g k h) }
 
 -- have the same least weight
 pub least-agree : (free : NumSet) (f g v w : ℕ → ℕ) (k need r : ℕ) → ((i : ℕ) → i < k → f i ≡ g i) → ((i : ℕ) → i < k → v i ≡ w i)
-    → Least free f v k need r → Least free g w k need r
+    → LeastCover free f v k need r → LeastCover free g w k need r
 least-agree free f g v w k need r a b l = record {
   candidate = record {
     most = l .candidate .most;
@@ -280,7 +280,7 @@ least-agree free f g v w k need r a b l = record {
 
 -- sets of free units that agree below k, too
 pub least-free : (free other : NumSet) (f v : ℕ → ℕ) (k need r : ℕ) → ((i : ℕ) → i < k → free i ≡ other i)
-    → Least free f v k need r → Least other f v k need r
+    → LeastCover free f v k need r → LeastCover other f v k need r
 least-free free other f v k need r same l = record {
   candidate = record {
     most = l .candidate .most;

@@ -5,12 +5,21 @@ ghost use mathlib.Core.Path.{_≡_};
 ghost use Prim.Native.Nat.{_+_, _-_, _*_, _<_, _≤_};
 ghost use lib.Dec.{leb};
 ghost use Rattle.sums.specs.Sum.{sumTo};
-ghost use Rattle.sums.specs.NumSet.{has, away, pick};
-ghost use Rattle.cover.specs.Cover.{UNCOVERED, Candidate, Least, coverTo};
-ghost use Rattle.cover.specs.Tables.{entry, MOST_WEIGHT, MOST_GAIN, Caps, Weights, SumsTo, surplus, spared, Ready};
+ghost use Rattle.sums.specs.NumSet.{has, complement, onlyIn};
+ghost use Rattle.sums.specs.Table.{entry};
+ghost use Rattle.cover.specs.Cover.{UNCOVERED, Candidate, LeastCover, coverTo};
+ghost use Rattle.cover.specs.Tables.{MOST_WEIGHT, MOST_GAIN, Caps, Weights, surplus, spared, Cuts, CoverTables};
 
 // 2^44: stands for the weight where nothing covers.
 pub const UNCOVERED: u64 = 17592186044416;
+
+// The table that cuts the choice has at place k what the free units below k give together, behind that what they yield together above their weights,
+// and the rate.
+const GAINS: usize = 17;
+
+const RATE: usize = 34;
+
+const CUTS: usize = 35;
 
 // Advice on a cover: a rate, the weight to be charged for a kilogram, and a guess at the units, which may have units that are out. It decides the
 // time that is taken, and nothing else.
@@ -63,7 +72,7 @@ fn lightest(caps: &[u64; 16], weights: &[u64; 16], used: u32) -> usize
     found
 }
 
-// Takes the units that are lightest for a kilogram until they give what is needed.
+// Takes the units that are lightest for a kilogram until they give what is needed (D49).
 fn advise(caps: &[u64; 16], weights: &[u64; 16], u: usize, out: u32, need: Kilo) -> Advice
     requires { ⌜ Caps (now caps) × Weights (now weights) ⌝ }
     ensures { λ r. ⌜ r .rate ≤ MOST_WEIGHT ⌝ }
@@ -90,7 +99,7 @@ fn advise(caps: &[u64; 16], weights: &[u64; 16], u: usize, out: u32, need: Kilo)
 // What unit i adds to a sum over the units of a guess that are not out.
 fn spared_part(table: &[u64; 16], out: u32, guess: u32, i: usize) -> u64
     requires { ⌜ i < 16 ⌝ }
-    ensures { λ r. ⌜ r ≡ pick (spared out guess) (entry (now (table .entry))) i ⌝ }
+    ensures { λ r. ⌜ r ≡ onlyIn (spared out guess) (entry (now (table .entry))) i ⌝ }
 {
     if sets::has(out, i) {
         return 0;
@@ -105,7 +114,7 @@ fn spared_part(table: &[u64; 16], out: u32, guess: u32, i: usize) -> u64
 fn guess_output(caps: &[u64; 16], u: usize, out: u32, guess: u32) -> Kilo
     requires { ⌜ Caps (now caps) ⌝ }
     requires { ⌜ u ≤ 16 ⌝ }
-    ensures { λ r. ⌜ r .0 ≡ sumTo u (pick (spared out guess) (entry (now (caps .entry)))) ⌝ }
+    ensures { λ r. ⌜ r .0 ≡ sumTo u (onlyIn (spared out guess) (entry (now (caps .entry)))) ⌝ }
 {
     let mut sum = Kilo(0);
     for i in 0..u {
@@ -118,7 +127,7 @@ fn guess_output(caps: &[u64; 16], u: usize, out: u32, guess: u32) -> Kilo
 fn guess_weight(weights: &[u64; 16], u: usize, out: u32, guess: u32) -> u64
     requires { ⌜ Weights (now weights) ⌝ }
     requires { ⌜ u ≤ 16 ⌝ }
-    ensures { λ r. ⌜ r ≡ sumTo u (pick (spared out guess) (entry (now (weights .entry)))) ⌝ }
+    ensures { λ r. ⌜ r ≡ sumTo u (onlyIn (spared out guess) (entry (now (weights .entry)))) ⌝ }
 {
     let mut sum = 0;
     for i in 0..u {
@@ -128,10 +137,17 @@ fn guess_weight(weights: &[u64; 16], u: usize, out: u32, guess: u32) -> u64
 }
 
 // What the guess weighs without the units that are out, where that is a cover with units below u.
-fn guessed(caps: &[u64; 16], weights: &[u64; 16], u: usize, out: u32, guess: u32, need: Kilo) -> u64
+fn guess_weight_if_cover(
+    caps: &[u64; 16],
+    weights: &[u64; 16],
+    u: usize,
+    out: u32,
+    guess: u32,
+    need: Kilo,
+) -> u64
     requires { ⌜ Caps (now caps) × Weights (now weights) ⌝ }
     requires { ⌜ u ≤ 16 ⌝ }
-    ensures { λ r. ⌜ Candidate (away (has out)) (entry (now (caps .entry))) (entry (now (weights .entry))) u (need .0) r ⌝ }
+    ensures { λ r. ⌜ Candidate (complement (has out)) (entry (now (caps .entry))) (entry (now (weights .entry))) u (need .0) r ⌝ }
 {
     let given = guess_output(caps, u, out, guess);
     if given.0 < need.0 {
@@ -143,7 +159,7 @@ fn guessed(caps: &[u64; 16], weights: &[u64; 16], u: usize, out: u32, guess: u32
 // What unit i gives where it is not out.
 fn free_capacity(caps: &[u64; 16], out: u32, i: usize) -> Kilo
     requires { ⌜ i < 16 ⌝ }
-    ensures { λ r. ⌜ r .0 ≡ pick (away (has out)) (entry (now (caps .entry))) i ⌝ }
+    ensures { λ r. ⌜ r .0 ≡ onlyIn (complement (has out)) (entry (now (caps .entry))) i ⌝ }
 {
     if sets::has(out, i) {
         return Kilo(0);
@@ -151,27 +167,11 @@ fn free_capacity(caps: &[u64; 16], out: u32, i: usize) -> Kilo
     Kilo(caps[i])
 }
 
-// For each k, what the free units below k give together.
-fn rooms(caps: &[u64; 16], out: u32) -> [u64; 17]
-    requires { ⌜ Caps (now caps) ⌝ }
-    ensures { λ r. ⌜ SumsTo (away (has out)) (entry (now (caps .entry))) 16 r ⌝ }
-{
-    let mut room: [u64; 17] = [0; 17];
-    let mut sum = Kilo(0);
-    let mut k: usize = 0;
-    while k < 16 {
-        sum = sum.plus(free_capacity(caps, out, k));
-        k += 1;
-        room[k] = sum.0;
-    }
-    room
-}
-
 // What unit i yields above its weight where it is not out, at the rate for a kilogram.
 fn free_surplus(caps: &[u64; 16], weights: &[u64; 16], rate: u64, out: u32, i: usize) -> u64
     requires { ⌜ Caps (now caps) ⌝ }
     requires { ⌜ (rate ≤ MOST_WEIGHT) × (i < 16) ⌝ }
-    ensures { λ r. ⌜ r ≡ pick (away (has out)) (surplus rate (entry (now (caps .entry))) (entry (now (weights .entry)))) i ⌝ }
+    ensures { λ r. ⌜ r ≡ onlyIn (complement (has out)) (surplus rate (entry (now (caps .entry))) (entry (now (weights .entry)))) i ⌝ }
 {
     if sets::has(out, i) {
         return 0;
@@ -179,21 +179,37 @@ fn free_surplus(caps: &[u64; 16], weights: &[u64; 16], rate: u64, out: u32, i: u
     words::saturating_sub(rate * caps[i], weights[i])
 }
 
-// For each k, what the free units below k yield together above their weights.
-fn gains(caps: &[u64; 16], weights: &[u64; 16], rate: u64, out: u32) -> [u64; 17]
-    requires { ⌜ Caps (now caps) ⌝ }
-    requires { ⌜ rate ≤ MOST_WEIGHT ⌝ }
-    ensures { λ r. ⌜ SumsTo (away (has out)) (surplus rate (entry (now (caps .entry))) (entry (now (weights .entry)))) 16 r ⌝ }
+// Puts what the free units up to unit k give together, and what they yield, into a table that has this for the units below it.
+fn put_unit(
+    caps: &[u64; 16],
+    weights: &[u64; 16],
+    rate: u64,
+    out: u32,
+    k: usize,
+    cuts: &mut [u64; CUTS],
+)
+    requires { ⌜ Caps (now caps) × (rate ≤ MOST_WEIGHT) × (k < 16) ⌝ }
+    requires { ⌜ Cuts (complement (has out)) (entry (now caps)) (surplus rate (entry (now caps)) (entry (now weights))) rate k (now cuts) ⌝ }
+    ensures { λ r. ⌜ Cuts (complement (has out)) (entry (now (caps .entry))) (surplus rate (entry (now (caps .entry))) (entry (now (weights .entry)))) rate (k + 1)
+        (now (cuts .exit)) ⌝ }
 {
-    let mut gain: [u64; 17] = [0; 17];
-    let mut sum: u64 = 0;
-    let mut k: usize = 0;
-    while k < 16 {
-        sum += free_surplus(caps, weights, rate, out, k);
-        k += 1;
-        gain[k] = sum;
+    let room = Kilo(cuts[k]).plus(free_capacity(caps, out, k));
+    let gain = cuts[GAINS + k] + free_surplus(caps, weights, rate, out, k);
+    cuts[k + 1] = room.0;
+    cuts[GAINS + k + 1] = gain;
+}
+
+// The table that cuts the choice.
+fn cuts_of(caps: &[u64; 16], weights: &[u64; 16], rate: u64, out: u32) -> [u64; CUTS]
+    requires { ⌜ Caps (now caps) × (rate ≤ MOST_WEIGHT) ⌝ }
+    ensures { λ r. ⌜ Cuts (complement (has out)) (entry (now (caps .entry))) (surplus rate (entry (now (caps .entry))) (entry (now (weights .entry)))) rate 16 r ⌝ }
+{
+    let mut cuts: [u64; CUTS] = [0; CUTS];
+    cuts[RATE] = rate;
+    for k in 0..16 {
+        put_unit(caps, weights, rate, out, k, &mut cuts);
     }
-    gain
+    cuts
 }
 
 // Whether no cover from here can get below the best. Charge the rate for every kilogram still needed: free units repay at most the gain, so the rest
@@ -214,31 +230,29 @@ fn weight_with(weights: &[u64; 16], i: usize, weight: u64) -> u64
     weight + weights[i]
 }
 
-// The best weight after all choices among the units below k, where those taken so far have this weight and leave this need.
+// The best weight after all choices among the units below k, where those taken so far have this weight and leave this need (D48).
 fn walk(
     caps: &[u64; 16],
     weights: &[u64; 16],
-    room: &[u64; 17],
-    gain: &[u64; 17],
-    rate: u64,
+    cuts: &[u64; CUTS],
     out: u32,
     k: usize,
     need: Kilo,
     weight: u64,
     best: u64,
 ) -> u64
-    requires { ⌜ Ready out rate (now caps) (now weights) (now room) (now gain) ⌝ }
+    requires { ⌜ CoverTables out (now caps) (now weights) (now cuts) ⌝ }
     requires { ⌜ (k ≤ 16) × (best ≤ UNCOVERED) ⌝ }
-    ensures { λ r. ⌜ (r ≡ coverTo (away (has out)) (entry (now (caps .entry))) (entry (now (weights .entry))) k (need .0) weight best)
+    ensures { λ r. ⌜ (r ≡ coverTo (complement (has out)) (entry (now (caps .entry))) (entry (now (weights .entry))) k (need .0) weight best)
         × (r ≤ best) ⌝ }
 {
     if best <= weight {
         return best;
     }
-    if room[k] < need.0 {
+    if cuts[k] < need.0 {
         return best;
     }
-    if hopeless(rate, gain[k], need, weight, best) {
+    if hopeless(cuts[RATE], cuts[GAINS + k], need, weight, best) {
         return best;
     }
     if k == 0 {
@@ -246,18 +260,7 @@ fn walk(
         return weight;
     }
     let top = k - 1;
-    let low = walk(
-        caps,
-        weights,
-        room,
-        gain,
-        rate,
-        out,
-        top,
-        need,
-        weight,
-        best,
-    );
+    let low = walk(caps, weights, cuts, out, top, need, weight, best);
     if sets::has(out, top) {
         return low;
     }
@@ -265,9 +268,7 @@ fn walk(
     walk(
         caps,
         weights,
-        room,
-        gain,
-        rate,
+        cuts,
         out,
         top,
         rest,
@@ -280,12 +281,10 @@ fn walk(
 pub fn least(caps: &[u64; 16], weights: &[u64; 16], u: usize, out: u32, need: Kilo) -> u64
     requires { ⌜ Caps (now caps) × Weights (now weights) ⌝ }
     requires { ⌜ u ≤ 16 ⌝ }
-    ensures { λ r. ⌜ Least (away (has out)) (entry (now (caps .entry))) (entry (now (weights .entry))) u (need .0) r ⌝ }
+    ensures { λ r. ⌜ LeastCover (complement (has out)) (entry (now (caps .entry))) (entry (now (weights .entry))) u (need .0) r ⌝ }
 {
     let advice = advise(caps, weights, u, out, need);
-    let rate = advice.rate;
-    let start = guessed(caps, weights, u, out, advice.guess, need);
-    let room = rooms(caps, out);
-    let gain = gains(caps, weights, rate, out);
-    walk(caps, weights, &room, &gain, rate, out, u, need, 0, start)
+    let start = guess_weight_if_cover(caps, weights, u, out, advice.guess, need);
+    let cuts = cuts_of(caps, weights, advice.rate, out);
+    walk(caps, weights, &cuts, out, u, need, 0, start)
 }

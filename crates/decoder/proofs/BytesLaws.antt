@@ -6,7 +6,7 @@ use mathlib.Core.List.{List, _++_}
 use lib.ListN.{length, getD, set, drop}
 use borrow.Author.Tests.{eq-eqb, ne-eqb, le-leb, lt-leb}
 use Rattle.sums.proofs.LoopLaws.{list-start, list-next, list-ended}
-use Rattle.model.specs.Verdict.{gives, denies}
+use Rattle.model.specs.Verdict.{gives, refusedFigure}
 use Rattle.model.specs.Bytes.{wordFrom, wordAt, wordsTo, loadOf, loadedInto}
 
 -- ---- one word
@@ -18,11 +18,11 @@ word-of bs q a b c d ea eb ec ed = rw (ea, eb, ec, ed)
 
 -- ---- the answer
 
-pub load-uneven : (bs : List ℕ) (lent : ℕ) → (length bs % 4 ≡ 0 → ⊥) → denies 16 0 ≡ loadOf bs lent
+pub load-uneven : (bs : List ℕ) (lent : ℕ) → (length bs % 4 ≡ 0 → ⊥) → refusedFigure 16 0 ≡ loadOf bs lent
 unfolding loadOf
 load-uneven bs lent h = simp (ne-eqb (length bs % 4) 0 h)
 
-pub load-short : (bs : List ℕ) (lent : ℕ) → length bs % 4 ≡ 0 → lent < length bs / 4 → denies 17 0 ≡ loadOf bs lent
+pub load-short : (bs : List ℕ) (lent : ℕ) → length bs % 4 ≡ 0 → lent < length bs / 4 → refusedFigure 17 0 ≡ loadOf bs lent
 unfolding loadOf
 load-short bs lent h s = simp (eq-eqb (length bs % 4) 0 h, lt-leb (length bs / 4) lent s)
 
@@ -47,6 +47,6 @@ module _ (bs d : List ℕ) where
   words-ended l k n e h m = list-ended (wordAt bs) d l k n e h m
 
   -- a refused call changes nothing
-  pub words-kept : (number place : ℕ) → d ≡ loadedInto (denies number place) bs d
+  pub words-kept : (number place : ℕ) → d ≡ loadedInto (refusedFigure number place) bs d
   unfolding loadedInto
   words-kept number place = refl

@@ -8,5 +8,3 @@ pub mod StepLaws
 pub mod ReaderLaws
 -- bytes to words
 pub mod BytesLaws
--- the sizing figure
-pub mod SizingLaws

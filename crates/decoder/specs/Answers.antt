@@ -3,8 +3,8 @@
 use Rattle.model.specs.Verdict as model
 use Rattle.decoder.specs.declared.Verdict.{Verdict}
 use Rattle.decoder.specs.declared.Verdict.the-variants.{Accepted, Refused}
-use Rattle.decoder.specs.declared.Reply.{Reply}
-use Rattle.decoder.specs.declared.Reply.the-variants.{Number, Denied}
+use Rattle.decoder.specs.declared.Figure.{Figure}
+use Rattle.decoder.specs.declared.Figure.the-variants.{Number, Refused as RefusedFigure}
 
 -- accepted, or the refusal's number and place
 abbrev pub verdictOf : Verdict → model.Verdict
@@ -12,6 +12,6 @@ verdictOf Accepted = model.accepted
 verdictOf (Refused number place) = model.refused number place
 
 -- the number, or the refusal's number and place
-abbrev pub replyOf : Reply → model.Reply
-replyOf (Number n) = model.gives n
-replyOf (Denied number place) = model.denies number place
+abbrev pub figureOf : Figure → model.Figure
+figureOf (Number n) = model.gives n
+figureOf (RefusedFigure number place) = model.refusedFigure number place

@@ -12,6 +12,7 @@ use lib.Seq.{getD-set-same, getD-set-other}
 use borrow.Author.Tests.{ltb-true}
 use Rattle.sums.specs.Sum.{sumTo, shifted}
 use Rattle.sums.specs.NumSet.{NumSet, has}
+use Rattle.sums.specs.Table.{entry}
 use Rattle.sums.proofs.LogicLaws.{true-false, and-left}
 use Rattle.sums.proofs.LoopLaws.{sum-next}
 use Rattle.model.specs.declared.Layout.{Layout}
@@ -23,13 +24,12 @@ use Rattle.model.proofs.DomainLaws.{permits-ends, span-from, span-below, span-o
 use Rattle.model.proofs.FileLaws.{fair}
 use Rattle.instance.specs.Filed.{Filed}
 use Rattle.overhaul.proofs.UpkeepLaws.{start-some, ends-within}
-use Rattle.blame.specs.Closed.{startIn}
 use Rattle.blame.specs.Placed.{firstUnits}
 use Rattle.tables.specs.Tables.{excessIn, rootIn, totalIn}
-use Rattle.dual.specs.declared.Kept.{Kept}
+use Rattle.dual.specs.declared.BlameLeft.{BlameLeft}
 use Rattle.dual.specs.declared.Node.{Node}
-use Rattle.dual.specs.Dual.{worthIn, Dual, Bounds}
-use Rattle.dual.specs.Blame.{PermitsTo, Bounded, Blamed, gainIn, lossOf, BackTo, PutBack, Thins, Thinned, OverhaulAt, Dropping, Dropped}
+use Rattle.dual.specs.Dual.{Dual, Bounds}
+use Rattle.dual.specs.Blame.{MOST_WANTED, PermitsTo, Bounded, Blamed, gainIn, lossOf, BackTo, PutBack, ShrinksTo, Shrunk, OverhaulAt, Dropping, Dropped}
 use Rattle.dual.proofs.BoundsLaws.{bounds-closed, bounds-dropped}
 
 -- ---- a unit's start
@@ -41,26 +41,26 @@ module _ (ws : List ℕ) (l : Layout) (starts : List ℕ) (i : ℕ) (xs : List �
   h : i < l .units
   h = at .unit
 
-  e : permitted (problemOf ws) i (startIn starts i) ≡ true
+  e : permitted (problemOf ws) i (entry starts i) ≡ true
   e = at .permits
 
   -- it counts from 1
   pub own-some : 1 ≤ getD starts i 0
-  unfolding startIn
-  own-some = start-some ws l i (startIn starts i) f h e
+  unfolding entry
+  own-some = start-some ws l i (entry starts i) f h e
 
   -- the overhaul ends in the season
   pub own-ends : (d : ℕ) → d ≡ problemOf ws .duration i → getD starts i 0 - 1 + d ≤ 52
-  unfolding startIn
-  own-ends d is = omega (arith, ends-within ws l i (startIn starts i) f h e d is, f .weeks-most)
+  unfolding entry
+  own-ends d is = omega (arith, ends-within ws l i (entry starts i) f h e d is, f .weeks-most)
 
   -- and is one of 52
   pub own-few : getD starts i 0 < 64
-  unfolding startIn
+  unfolding entry
   own-few =
       omega (
         arith,
-        permits-ends (problemOf ws) i (startIn starts i) e,
+        permits-ends (problemOf ws) i (entry starts i) e,
         fair ws (f .passed) .some-weeks i (rw (f .units-are) h),
         f .weeks-are,
         f .weeks-most,
@@ -68,9 +68,9 @@ module _ (ws : List ℕ) (l : Layout) (starts : List ℕ) (i : ℕ) (xs : List �
 
 -- ---- what is lost
 
--- a week's worth above that with nobody out
+-- a week's value above that with nobody out
 pub gain-at : (us xs : List ℕ) (t v o r : ℕ) → v ≡ getD xs t 0 → o ≡ rootIn us t → r ≡ v - o → r ≡ gainIn us xs t
-unfolding gainIn worthIn
+unfolding gainIn entry
 gain-at us xs t v o r is root e = rw (is, root) at e
 
 -- one week more
@@ -81,8 +81,8 @@ gains-next us xs a k c v r = sum-next (shifted a (gainIn us xs)) k c v r
 
 -- with what the unit costs above its least
 pub loss-is : (ws us starts xs : List ℕ) (i d c v r : ℕ) → d ≡ problemOf ws .duration i → c ≡ excessIn us i (getD starts i 0)
-    → v ≡ sumTo d (shifted (getD starts i 0 - 1) (gainIn us xs)) → r ≡ c + v → r ≡ lossOf (problemOf ws) us (startIn starts) xs i
-unfolding lossOf startIn
+    → v ≡ sumTo d (shifted (getD starts i 0 - 1) (gainIn us xs)) → r ≡ c + v → r ≡ lossOf (problemOf ws) us (entry starts) xs i
+unfolding lossOf entry
 loss-is ws us starts xs i d c v r e ec ev er = rw (← e, ← ec, ← ev) er
 
 -- ---- weeks put back
@@ -94,7 +94,7 @@ back-start us a xs long = record { long = long; inside = λ t l m. absurd (omega
 -- one more
 pub back-next : (us : List ℕ) (a k d v : ℕ) (xs ys : List ℕ) → BackTo us a k xs ys → k < d → a + d ≤ 52 → v ≡ rootIn us (a + k)
     → BackTo us a (k + 1) xs (set ys (a + k) v)
-unfolding worthIn
+unfolding entry
 back-next us a k d v xs ys h more within is = record {
   long = length-set ys (a + k) v ∙ h .long;
   inside = λ t l m. by t l m (ℕ-discrete t (a + k));
@@ -115,8 +115,8 @@ back-ended us a k d xs ys h m n = let e : k ≡ d = omega arith in rw e at h
 
 -- they are those of the overhaul
 pub back-of : (ws : List ℕ) (l : Layout) (us starts xs ys : List ℕ) (i d : ℕ) → OverhaulAt ws l starts i xs → d ≡ problemOf ws .duration i
-    → BackTo us (getD starts i 0 - 1) d xs ys → PutBack (problemOf ws) us (startIn starts) i xs ys
-unfolding outIn startIn
+    → BackTo us (getD starts i 0 - 1) d xs ys → PutBack (problemOf ws) us (entry starts) i xs ys
+unfolding outIn entry
 back-of ws l us starts xs ys i d at is h = record {
   long = h .long;
   inside = λ t b o.
@@ -132,7 +132,7 @@ back-of ws l us starts xs ys i d at is h = record {
     dur = problemOf ws .duration i
 
     out : (t : ℕ) → inSpan (getD starts i 0) (problemOf ws .duration i) t ≡ false → Dec (t < getD starts i 0 - 1)
-        → Dec (t < getD starts i 0 - 1 + problemOf ws .duration i) → worthIn ys t ≡ worthIn xs t
+        → Dec (t < getD starts i 0 - 1 + problemOf ws .duration i) → entry ys t ≡ entry xs t
     out t o (yes b) _ = h .before t b
     out t o (no b) (no c) = h .after t (omega arith)
     out t o (no b) (yes c) =
@@ -142,19 +142,19 @@ back-of ws l us starts xs ys i d at is h = record {
 -- ---- a unit dropped
 
 -- the unit stays
-pub dropped-none : (ws : List ℕ) (l : Layout) (us starts xs : List ℕ) (i wanted : ℕ) (kept : Kept) → Dropping ws l us starts i wanted kept xs
-    → Dropped (problemOf ws) us (startIn starts) wanted kept kept xs
+pub dropped-none : (ws : List ℕ) (l : Layout) (us starts xs : List ℕ) (i wanted : ℕ) (kept : BlameLeft) → Dropping ws l us starts i wanted kept xs
+    → Dropped (problemOf ws) us (entry starts) wanted kept kept xs
 dropped-none ws l us starts xs i wanted kept d = record { thins = d .thins; fewer = λ n e. e }
 
 -- the others still keep the bound where it is wanted
-pub dropped-one : (ws : List ℕ) (l : Layout) (us starts xs ys : List ℕ) (i wanted v : ℕ) (kept r : Kept) → Dropping ws l us starts i wanted kept xs
-    → v ≡ lossOf (problemOf ws) us (startIn starts) xs i → wanted + v ≤ kept .sum .0 → PutBack (problemOf ws) us (startIn starts) i xs ys
+pub dropped-one : (ws : List ℕ) (l : Layout) (us starts xs ys : List ℕ) (i wanted v : ℕ) (kept r : BlameLeft) → Dropping ws l us starts i wanted kept xs
+    → v ≡ lossOf (problemOf ws) us (entry starts) xs i → wanted + v ≤ kept .sum .0 → PutBack (problemOf ws) us (entry starts) i xs ys
     → ((k : ℕ) → has (r .units) k ≡ (has (kept .units) k && not (eqb k i))) → r .sum .0 ≡ kept .sum .0 - v
-    → Dropped (problemOf ws) us (startIn starts) wanted kept r ys
+    → Dropped (problemOf ws) us (entry starts) wanted kept r ys
 dropped-one ws l us starts xs ys i wanted v kept r d el le back without ev =
     record {
       thins = record {
-        bounds = subst (Bounds p us (has (r .units)) (startIn starts) ys) (sym (ev ∙ ap (λ (x : ℕ). kept .sum .0 - x) el)) b;
+        bounds = subst (Bounds p us (has (r .units)) (entry starts) ys) (sym (ev ∙ ap (λ (x : ℕ). kept .sum .0 - x) el)) b;
         reaches = omega arith;
       };
       fewer = λ n q. and-left (has (kept .units) n) (not (eqb n i)) (sym (without n) ∙ q);
@@ -166,27 +166,27 @@ dropped-one ws l us starts xs ys i wanted v kept r d el le back without ev =
     f : Filed ws l
     f = d .at .filed
 
-    b : Bounds p us (has (r .units)) (startIn starts) ys (kept .sum .0 - lossOf p us (startIn starts) xs i)
+    b : Bounds p us (has (r .units)) (entry starts) ys (kept .sum .0 - lossOf p us (entry starts) xs i)
     b =
-        bounds-dropped p us (has (kept .units)) (has (r .units)) (startIn starts) xs ys i (kept .sum .0) (fair ws (f .passed)) (d .dual .costs) (d .dual .roots)
+        bounds-dropped p us (has (kept .units)) (has (r .units)) (entry starts) xs ys i (kept .sum .0) (fair ws (f .passed)) (d .dual .costs) (d .dual .roots)
         (omega (arith, d .at .unit, f .units-are)) (d .at .permits) without back (d .thins .bounds)
 
 -- ---- units dropped in turn
 
 -- from unit i on, of the first k units
-pub record Thinning (ws : List ℕ) (l : Layout) (us starts : List ℕ) (k wanted i : ℕ) (kept : Kept) (xs : List ℕ) : Type 0 where
+pub record Thinning (ws : List ℕ) (l : Layout) (us starts : List ℕ) (k wanted i : ℕ) (kept : BlameLeft) (xs : List ℕ) : Type 0 where
   pub filed : Filed ws l
   pub dual : Dual (problemOf ws) us
   pub placed : k ≤ l .units
-  pub permits : PermitsTo (problemOf ws) (startIn starts) (k)
-  pub few : wanted ≤ 8589934592
-  pub thins : Thins (problemOf ws) us (startIn starts) wanted kept xs
+  pub permits : PermitsTo (problemOf ws) (entry starts) (k)
+  pub few : wanted ≤ MOST_WANTED
+  pub thins : ShrinksTo (problemOf ws) us (entry starts) wanted kept xs
   pub within : (n : ℕ) → has (kept .units) n ≡ true → n < k
   pub places : i ≤ k
 
 -- none yet
 pub thinning-start : (ws : List ℕ) (l : Layout) (us : List ℕ) (node : Node) (wanted b : ℕ) (xs : List ℕ) → Bounded ws l us node xs
-    → wanted ≤ node .bound .0 → wanted ≤ 8589934592 → ((n : ℕ) → has b n ≡ ltb n (node .unit))
+    → wanted ≤ node .bound .0 → wanted ≤ MOST_WANTED → ((n : ℕ) → has b n ≡ ltb n (node .unit))
     → Thinning ws l us (node .starts) (node .unit) wanted (node .unit) (record { units = b; sum = node .bound }) xs
 unfolding firstUnits
 thinning-start ws l us node wanted b xs h le few all = record {
@@ -196,14 +196,14 @@ thinning-start ws l us node wanted b xs h le few all = record {
   permits = h .permits;
   few = few;
   thins = record {
-    bounds = subst (λ (a : NumSet). Bounds (problemOf ws) us a (startIn (node .starts)) xs (node .bound .0)) (sym (fun-ext all)) (h .bounds);
+    bounds = subst (λ (a : NumSet). Bounds (problemOf ws) us a (entry (node .starts)) xs (node .bound .0)) (sym (fun-ext all)) (h .bounds);
     reaches = le;
   };
   within = λ n q. ltb-true n (node .unit) (sym (all n) ∙ q);
   places = omega arith;
 }
 
-module _ (ws : List ℕ) (l : Layout) (us starts : List ℕ) (k wanted i j : ℕ) (kept : Kept) (xs : List ℕ)
+module _ (ws : List ℕ) (l : Layout) (us starts : List ℕ) (k wanted i j : ℕ) (kept : BlameLeft) (xs : List ℕ)
     (h : Thinning ws l us starts k wanted i kept xs) (e : j ≡ i - 1) where
   -- the next unit may be dropped
   pub thinning-drops : 0 < i → Dropping ws l us starts j wanted kept xs
@@ -212,7 +212,7 @@ module _ (ws : List ℕ) (l : Layout) (us starts : List ℕ) (k wanted i j : ℕ
       filed = h .filed;
       unit = omega (arith, h .places, h .placed);
       permits = h .permits .each j (omega (arith, h .places));
-      long = h .thins .bounds .worths .long;
+      long = h .thins .bounds .values .long;
     };
     dual = h .dual;
     few = h .few;
@@ -220,7 +220,7 @@ module _ (ws : List ℕ) (l : Layout) (us starts : List ℕ) (k wanted i j : ℕ
   }
 
   -- it was, or not
-  pub thinning-next : (r : Kept) (ys : List ℕ) → Dropped (problemOf ws) us (startIn starts) wanted kept r ys → Thinning ws l us starts k wanted j r ys
+  pub thinning-next : (r : BlameLeft) (ys : List ℕ) → Dropped (problemOf ws) us (entry starts) wanted kept r ys → Thinning ws l us starts k wanted j r ys
   thinning-next r ys t = record {
     filed = h .filed;
     dual = h .dual;
@@ -233,8 +233,8 @@ module _ (ws : List ℕ) (l : Layout) (us starts : List ℕ) (k wanted i j : ℕ
   }
 
 -- all were tried
-pub thinning-ended : (ws : List ℕ) (l : Layout) (us starts : List ℕ) (k wanted i : ℕ) (kept : Kept) (xs : List ℕ)
-    → Thinning ws l us starts k wanted i kept xs → Thinned (problemOf ws) us (startIn starts) k wanted kept
+pub thinning-ended : (ws : List ℕ) (l : Layout) (us starts : List ℕ) (k wanted i : ℕ) (kept : BlameLeft) (xs : List ℕ)
+    → Thinning ws l us starts k wanted i kept xs → Shrunk (problemOf ws) us (entry starts) k wanted kept
 thinning-ended ws l us starts k wanted i kept xs h = record { xs = xs; thins = h .thins; within = h .within }
 
 -- ---- who is to blame
@@ -249,12 +249,12 @@ blamed-all p us node limit b wanted e less all = record {
 }
 
 -- it comes to the limit: those that keep it there
-pub blamed-some : (ws : List ℕ) (l : Layout) (us : List ℕ) (node : Node) (xs : List ℕ) (limit wanted : ℕ) (kept : Kept) → Bounded ws l us node xs
+pub blamed-some : (ws : List ℕ) (l : Layout) (us : List ℕ) (node : Node) (xs : List ℕ) (limit wanted : ℕ) (kept : BlameLeft) → Bounded ws l us node xs
     → wanted ≡ limit + totalIn us → wanted ≤ node .bound .0
-    → Thinned (problemOf ws) us (startIn (node .starts)) (node .unit) wanted kept → Blamed (problemOf ws) us node limit (kept .units)
+    → Shrunk (problemOf ws) us (entry (node .starts)) (node .unit) wanted kept → Blamed (problemOf ws) us node limit (kept .units)
 blamed-some ws l us node xs limit wanted kept h e le t = record {
   within = t .within;
-  closed = λ _. bounds-closed (problemOf ws) us (has (kept .units)) (startIn (node .starts)) (t .xs) (kept .sum .0) limit (fair ws (h .filed .passed))
+  closed = λ _. bounds-closed (problemOf ws) us (has (kept .units)) (entry (node .starts)) (t .xs) (kept .sum .0) limit (fair ws (h .filed .passed))
       (h .dual) (t .thins .bounds) (omega (arith, t .thins .reaches));
   all = λ less. absurd (omega arith);
 }

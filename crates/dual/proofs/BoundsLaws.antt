@@ -13,7 +13,8 @@ use lib.Seq.{getD-set-same, getD-set-other}
 use borrow.Author.Tests.{lt-ltb, le-ltb, ltb-true, eq-eqb, ne-eqb}
 use Rattle.sums.specs.Logic.{if}
 use Rattle.sums.specs.Sum.{sumTo, added, shifted}
-use Rattle.sums.specs.NumSet.{NumSet, pick, has}
+use Rattle.sums.specs.NumSet.{NumSet, onlyIn, has}
+use Rattle.sums.specs.Table.{entry}
 use Rattle.sums.proofs.LogicLaws.{true-false, and-of, and-left, and-right}
 use Rattle.sums.proofs.SumLaws.{sum-mono, sum-same, sum-added}
 use Rattle.sums.proofs.NumSetLaws.{zero-has}
@@ -29,13 +30,13 @@ use Rattle.blame.specs.Priced.{priced, unitBound, lowerBound, LeastPriced, Week
 use Rattle.blame.proofs.BoundLaws.{priced-closed}
 use Rattle.blame.proofs.PlacedLaws.{sum-one}
 use Rattle.tables.specs.Tables.{priceIn, leastIn, excessIn, rootIn, totalIn}
-use Rattle.dual.specs.Dual.{worthIn, Costs, Roots, Dual, Bounds}
+use Rattle.dual.specs.Dual.{Costs, Roots, Dual, Bounds}
 use Rattle.dual.specs.Blame.{gainIn, lossOf, PutBack}
 
 -- ---- sets of units out
 
 module _ (p : Problem) (u : ℕ → ℕ → ℕ) where
-  -- a worth holds with more units out
+  -- a value holds with more units out
   pub week-more : (t : ℕ) (a b : NumSet) (v : ℕ) → ((i : ℕ) → i < p .units → a i ≡ true → b i ≡ true) → WeekLeast p u t a v → WeekLeast p u t b v
   week-more t a b v more h = record { below = λ out r c sup s. h .below out r c (λ i l e. sup i l (more i l e)) s }
 
@@ -56,7 +57,7 @@ out-more p b c starts t i more e =
 pub bounds-closed : (p : Problem) (us : List ℕ) (b : NumSet) (starts : ℕ → ℕ) (xs : List ℕ) (sum limit : ℕ) → Fair p → Dual p us
     → Bounds p us b starts xs sum → limit + totalIn us ≤ sum → Closed p b starts limit
 bounds-closed p us b starts xs sum limit fair d h le =
-    priced-closed p (priceIn us) b starts (leastIn us) (worthIn xs) limit fair least (h .worths .least) (omega (arith, d .total, h .under))
+    priced-closed p (priceIn us) b starts (leastIn us) (entry xs) limit fair least (h .values .least) (omega (arith, d .total, h .under))
   where
     least : LeastPriced p (priceIn us) (leastIn us)
     least = record { below = λ i s l e. omega (arith, d .costs .exact i s l e) }
@@ -70,11 +71,11 @@ module _ (p : Problem) (us : List ℕ) (starts : ℕ → ℕ) (xs : List ℕ) (j
       → Bounds p us (firstUnits (j + 1)) starts xs (sum + excessIn us j (starts j))
   unfolding lowerBound unitBound firstUnits
   bounds-placed h = record {
-    worths = record {
-      long = h .worths .long;
-      least = λ t l. week-more p (priceIn us) t (outOf p (firstUnits j) starts t) (outOf p (firstUnits (j + 1)) starts t) (worthIn xs t)
-          (λ i b. out-more p (firstUnits j) (firstUnits (j + 1)) starts t i (rises i)) (h .worths .least t l);
-      small = h .worths .small;
+    values = record {
+      long = h .values .long;
+      least = λ t l. week-more p (priceIn us) t (outOf p (firstUnits j) starts t) (outOf p (firstUnits (j + 1)) starts t) (entry xs t)
+          (λ i b. out-more p (firstUnits j) (firstUnits (j + 1)) starts t i (rises i)) (h .values .least t l);
+      small = h .values .small;
     };
     under = omega (arith, h .under, one, old, new, c .exact j (starts j) unit permits);
   }
@@ -122,11 +123,11 @@ pub bounds-agree : (p : Problem) (us : List ℕ) (starts other : ℕ → ℕ) (x
     → ((i : ℕ) → i < k → starts i ≡ other i) → Bounds p us (firstUnits k) starts xs sum → Bounds p us (firstUnits k) other xs sum
 unfolding lowerBound unitBound firstUnits outOf outIn
 bounds-agree p us starts other xs k sum same h = record {
-  worths = record {
-    long = h .worths .long;
-    least = λ t l. week-more p (priceIn us) t (outOf p (firstUnits k) starts t) (outOf p (firstUnits k) other t) (worthIn xs t) (λ i _. out t i)
-        (h .worths .least t l);
-    small = h .worths .small;
+  values = record {
+    long = h .values .long;
+    least = λ t l. week-more p (priceIn us) t (outOf p (firstUnits k) starts t) (outOf p (firstUnits k) other t) (entry xs t) (λ i _. out t i)
+        (h .values .least t l);
+    small = h .values .small;
   };
   under = omega (
     arith,
@@ -152,11 +153,11 @@ bounds-agree p us starts other xs k sum same h = record {
 module _ (p : Problem) (us : List ℕ) (b : NumSet) (starts : ℕ → ℕ) (xs : List ℕ) (sum t v : ℕ) where
   -- the bound changes by as much
   pub bounds-week : Bounds p us b starts xs sum → t < p .weeks → p .weeks ≤ 52 → WeekLeast p (priceIn us) t (outOf p b starts t) v → v ≤ NO_RUN
-      → (r : ℕ) → r ≡ sum + v - worthIn xs t → Bounds p us b starts (set xs t v) r
-  unfolding lowerBound worthIn
+      → (r : ℕ) → r ≡ sum + v - entry xs t → Bounds p us b starts (set xs t v) r
+  unfolding lowerBound entry
   bounds-week h l few w s r e = record {
-    worths = record {
-      long = length-set xs t v ∙ h .worths .long;
+    values = record {
+      long = length-set xs t v ∙ h .values .long;
       least = λ k m. least k m (ℕ-discrete k t);
       small = λ k m. small k m (ℕ-discrete k t);
     };
@@ -164,23 +165,23 @@ module _ (p : Problem) (us : List ℕ) (b : NumSet) (starts : ℕ → ℕ) (xs :
   }
     where
       same : getD (set xs t v) t 0 ≡ v
-      same = getD-set-same xs t v 0 (omega (arith, h .worths .long))
+      same = getD-set-same xs t v 0 (omega (arith, h .values .long))
 
       other : (k : ℕ) → (k ≡ t → ⊥) → getD (set xs t v) k 0 ≡ getD xs k 0
       other k ne = getD-set-other xs t k v 0 ne
 
-      one : sumTo (p .weeks) (worthIn (set xs t v)) + getD xs t 0 ≡ sumTo (p .weeks) (worthIn xs) + getD (set xs t v) t 0
-      one = sum-one (p .weeks) t (worthIn xs) (worthIn (set xs t v)) l (λ k m ne. sym (other k ne))
+      one : sumTo (p .weeks) (entry (set xs t v)) + getD xs t 0 ≡ sumTo (p .weeks) (entry xs) + getD (set xs t v) t 0
+      one = sum-one (p .weeks) t (entry xs) (entry (set xs t v)) l (λ k m ne. sym (other k ne))
 
       least : (k : ℕ) → k < p .weeks → Dec (k ≡ t) → WeekLeast p (priceIn us) k (outOf p b starts k) (getD (set xs t v) k 0)
       least k m (yes q) =
           subst (λ (z : ℕ). WeekLeast p (priceIn us) z (outOf p b starts z) (getD (set xs t v) z 0)) (sym q)
           (subst (WeekLeast p (priceIn us) t (outOf p b starts t)) (sym same) w)
-      least k m (no q) = subst (WeekLeast p (priceIn us) k (outOf p b starts k)) (sym (other k q)) (h .worths .least k m)
+      least k m (no q) = subst (WeekLeast p (priceIn us) k (outOf p b starts k)) (sym (other k q)) (h .values .least k m)
 
       small : (k : ℕ) → k < p .weeks → Dec (k ≡ t) → getD (set xs t v) k 0 ≤ NO_RUN
       small k m (yes q) = rw q (omega (arith, same))
-      small k m (no q) = omega (arith, other k q, h .worths .small k m)
+      small k m (no q) = omega (arith, other k q, h .values .small k m)
 
 -- ---- a unit dropped
 
@@ -202,15 +203,15 @@ module _ (p : Problem) (us : List ℕ) (b c : NumSet) (starts : ℕ → ℕ) (xs
       and-false true = refl
       and-false false = refl
 
-  -- a week of its overhaul has its worth with nobody out, another the worth that it had
-  worth : (t : ℕ) → t < p .weeks → (o : Bool) → outIn p starts t i ≡ o → WeekLeast p (priceIn us) t (outOf p b starts t) (worthIn xs t)
-      → WeekLeast p (priceIn us) t (outOf p c starts t) (worthIn ys t)
+  -- a week of its overhaul has its value with nobody out, another the value that it had
+  value : (t : ℕ) → t < p .weeks → (o : Bool) → outIn p starts t i ≡ o → WeekLeast p (priceIn us) t (outOf p b starts t) (entry xs t)
+      → WeekLeast p (priceIn us) t (outOf p c starts t) (entry ys t)
   unfolding outOf
-  worth t l true e w = subst (WeekLeast p (priceIn us) t (outOf p c starts t)) (sym (back .inside t l e)) (week-none p (priceIn us) t (outOf p c starts t) (rootIn us t)
+  value t l true e w = subst (WeekLeast p (priceIn us) t (outOf p c starts t)) (sym (back .inside t l e)) (week-none p (priceIn us) t (outOf p c starts t) (rootIn us t)
       (rs .each t l .least))
-  worth t l false e w =
+  value t l false e w =
       subst (WeekLeast p (priceIn us) t (outOf p c starts t)) (sym (back .outside t l e))
-      (week-more p (priceIn us) t (outOf p b starts t) (outOf p c starts t) (worthIn xs t) (λ k m. kept k) w)
+      (week-more p (priceIn us) t (outOf p b starts t) (outOf p c starts t) (entry xs t) (λ k m. kept k) w)
     where
       kept : (k : ℕ) → outOf p b starts t k ≡ true → outOf p c starts t k ≡ true
       kept k o = go (ℕ-discrete k i)
@@ -223,26 +224,26 @@ module _ (p : Problem) (us : List ℕ) (b c : NumSet) (starts : ℕ → ℕ) (xs
               true-false (sym (and-right (b k) (outIn p starts t k) both) ∙ (ap (outIn p starts t) q ∙ e))
           go (no q) = out-more p b c starts t k (λ z. sym (stays k q) ∙ z) o
 
-  small : (t : ℕ) → t < p .weeks → (o : Bool) → outIn p starts t i ≡ o → worthIn xs t ≤ NO_RUN → worthIn ys t ≤ NO_RUN
+  small : (t : ℕ) → t < p .weeks → (o : Bool) → outIn p starts t i ≡ o → entry xs t ≤ NO_RUN → entry ys t ≤ NO_RUN
   small t l true e w = omega (arith, back .inside t l e, rs .each t l .small)
   small t l false e w = omega (arith, back .outside t l e)
 
   -- what the weeks lose
-  weeks-lose : sumTo (p .weeks) (worthIn xs) ≤ sumTo (p .weeks) (worthIn ys) + sumTo (p .duration i) (shifted (starts i - 1) (gainIn us xs))
-  unfolding added pick gainIn outIn
+  weeks-lose : sumTo (p .weeks) (entry xs) ≤ sumTo (p .weeks) (entry ys) + sumTo (p .duration i) (shifted (starts i - 1) (gainIn us xs))
+  unfolding added onlyIn gainIn outIn
   weeks-lose =
       let one : starts i ≡ suc (starts i - 1) = omega (arith, permits-from p i (starts i) permits, fair .from-one i unit) in
       let span = span-sum (starts i - 1) (p .duration i) (gainIn us xs) (p .weeks) (omega (arith, permits-ends p i (starts i) permits)) in
-      let mono = sum-mono (p .weeks) (worthIn xs) (added (worthIn ys) gain) (λ t l. week t l (inSpan (starts i) (p .duration i) t) refl) in
-      let sums = sum-added (p .weeks) (worthIn ys) gain in
-      let same : sumTo (p .weeks) gain ≡ sumTo (p .weeks) (pick (inSpan (suc (starts i - 1)) (p .duration i)) (gainIn us xs))
-      = ap (λ (s : ℕ). sumTo (p .weeks) (pick (inSpan s (p .duration i)) (gainIn us xs))) one in
+      let mono = sum-mono (p .weeks) (entry xs) (added (entry ys) gain) (λ t l. week t l (inSpan (starts i) (p .duration i) t) refl) in
+      let sums = sum-added (p .weeks) (entry ys) gain in
+      let same : sumTo (p .weeks) gain ≡ sumTo (p .weeks) (onlyIn (inSpan (suc (starts i - 1)) (p .duration i)) (gainIn us xs))
+      = ap (λ (s : ℕ). sumTo (p .weeks) (onlyIn (inSpan s (p .duration i)) (gainIn us xs))) one in
       omega (arith, span, mono, sums, same)
     where
       gain : ℕ → ℕ
-      gain = pick (inSpan (starts i) (p .duration i)) (gainIn us xs)
+      gain = onlyIn (inSpan (starts i) (p .duration i)) (gainIn us xs)
 
-      week : (t : ℕ) → t < p .weeks → (o : Bool) → inSpan (starts i) (p .duration i) t ≡ o → worthIn xs t ≤ added (worthIn ys) gain t
+      week : (t : ℕ) → t < p .weeks → (o : Bool) → inSpan (starts i) (p .duration i) t ≡ o → entry xs t ≤ added (entry ys) gain t
       week t l true e = rw e (omega (arith, back .inside t l e))
       week t l false e = omega (arith, back .outside t l e)
 
@@ -269,10 +270,10 @@ module _ (p : Problem) (us : List ℕ) (b c : NumSet) (starts : ℕ → ℕ) (xs
   pub bounds-dropped : Bounds p us b starts xs sum → Bounds p us c starts ys (sum - lossOf p us starts xs i)
   unfolding lowerBound lossOf
   bounds-dropped h = record {
-    worths = record {
+    values = record {
       long = back .long;
-      least = λ t l. worth t l (outIn p starts t i) refl (h .worths .least t l);
-      small = λ t l. small t l (outIn p starts t i) refl (h .worths .small t l);
+      least = λ t l. value t l (outIn p starts t i) refl (h .values .least t l);
+      small = λ t l. small t l (outIn p starts t i) refl (h .values .small t l);
     };
     under = omega (arith, h .under, weeks-lose, units-lose);
   }

@@ -3,18 +3,15 @@
 -- Assumes nothing.
 use Prim.Native.Nat.{ℕ, suc, _+_, _*_, _-_, _≤_, _<_}
 use mathlib.Core.Path.{_≡_, sym, _∙_, ap, subst}
-use mathlib.Core.Bool.{Bool, true, false, _&&_}
+use mathlib.Core.Bool.{Bool, true, false}
 use mathlib.Core.List.{List}
 use native.Mathlib.Decide.{ℕ-discrete}
 use native.Mathlib.Omega.{arith}
-use lib.Dec.{leb}
 use lib.ListN.{length, getD, set}
 use lib.Seq.{getD-set-same, getD-set-other}
-use borrow.Author.Tests.{leb-true, le-leb}
 use Rattle.sums.specs.Logic.{if}
-use Rattle.sums.specs.Sum.{sumTo, added, turned, shifted}
-use Rattle.sums.specs.NumSet.{NumSet, pick, parts}
-use Rattle.sums.proofs.LogicLaws.{and-of, and-left, and-right}
+use Rattle.sums.specs.Sum.{sumTo, added, transposed, shifted}
+use Rattle.sums.specs.NumSet.{NumSet, onlyIn, parts}
 use Rattle.sums.proofs.SumLaws.{sum-same, sum-added}
 use Rattle.sums.proofs.LoopLaws.{sum-next, sum-ended}
 use Rattle.model.specs.declared.Layout.{Layout}
@@ -31,28 +28,28 @@ use Rattle.overhaul.proofs.StartLaws.{range-in, range-at}
 use Rattle.overhaul.proofs.SpanLaws.{span-sum}
 use Rattle.overhaul.proofs.UpkeepLaws.{start-some, ends-within}
 use Rattle.blame.specs.Priced.{priced}
-use Rattle.tables.specs.Tables.{TABLES, START_COSTS, ROOT_VALUES, priceIn, offIn, leastIn, excessIn, Priced}
+use Rattle.tables.specs.Tables.{TABLES, START_COSTS, priceIn, offIn, leastIn, excessIn, Priced}
 use Rattle.tables.proofs.TableLaws.{begins-put}
-use Rattle.dual.specs.Dual.{MOST_OVERHAUL, spanSum, LeastFrom}
+use Rattle.dual.specs.Dual.{MOST_OVERHAUL, MOST_SPAN, spanSum, LeastFrom}
 use Rattle.dual.specs.Made.{UnitAt, StartAt, CostsMade, CostsTo}
 
 -- ---- an overhaul
 
 -- what unit i costs in a week, its price included
 abbrev pub pricedWeek : (ws us : List ℕ) → ℕ → ℕ → ℕ
-pricedWeek ws us i = added (turned (problemOf ws .maint) i) (turned (priceIn us) i)
+pricedWeek ws us i = added (transposed (problemOf ws .maint) i) (transposed (priceIn us) i)
 
 -- one more week
 pub priced-next : (ws us : List ℕ) (i a k s c v m r : ℕ) → s ≡ sumTo k (shifted a (pricedWeek ws us i)) → c ≡ problemOf ws .maint (a + k) i
     → v ≡ priceIn us (a + k) i → m ≡ c + v → r ≡ s + m → r ≡ sumTo (k + 1) (shifted a (pricedWeek ws us i))
-unfolding shifted added turned
+unfolding shifted added transposed
 priced-next ws us i a k s c v m r hs hc hv hm hr = sum-next (shifted a (pricedWeek ws us i)) k s m r hs (omega arith) hr
 
 -- and what it would cost OFF
-pub inside-next : (ws : List ℕ) (i a k s v r : ℕ) → s ≡ sumTo k (shifted a (turned (problemOf ws .off) i)) → v ≡ problemOf ws .off (a + k) i
-    → r ≡ s + v → r ≡ sumTo (k + 1) (shifted a (turned (problemOf ws .off) i))
-unfolding shifted turned
-inside-next ws i a k s v r = sum-next (shifted a (turned (problemOf ws .off) i)) k s v r
+pub inside-next : (ws : List ℕ) (i a k s v r : ℕ) → s ≡ sumTo k (shifted a (transposed (problemOf ws .off) i)) → v ≡ problemOf ws .off (a + k) i
+    → r ≡ s + v → r ≡ sumTo (k + 1) (shifted a (transposed (problemOf ws .off) i))
+unfolding shifted transposed
+inside-next ws i a k s v r = sum-next (shifted a (transposed (problemOf ws .off) i)) k s v r
 
 -- all its weeks
 pub span-ended : (ws : List ℕ) (l : Layout) (g : ℕ → ℕ) (i start k d r : ℕ) → StartAt ws l i start → d ≡ problemOf ws .duration i → k ≤ d → d ≤ k → r ≡ sumTo k (shifted (start - 1) g) → r ≡ spanSum (problemOf ws) i start g
@@ -70,32 +67,32 @@ span-ended ws l g i start k d r at is m n t =
     ∙ ap (λ (z : ℕ). spanSum p i z g) (sym s)
 
 -- one term in a set and another elsewhere, or the other everywhere: they differ by both over the set
-parts-shifted : (n : ℕ) (a : NumSet) (g f : ℕ → ℕ) → sumTo n (parts a g f) + sumTo n (pick a f) ≡ sumTo n (pick a g) + sumTo n f
-unfolding parts pick added
+parts-shifted : (n : ℕ) (a : NumSet) (g f : ℕ → ℕ) → sumTo n (parts a g f) + sumTo n (onlyIn a f) ≡ sumTo n (onlyIn a g) + sumTo n f
+unfolding parts onlyIn added
 parts-shifted n a g f =
-    sym (sum-added n (parts a g f) (pick a f))
-    ∙ sum-same n (added (parts a g f) (pick a f)) (added (pick a g) f) (λ k l. go k (a k))
-    ∙ sum-added n (pick a g) f
+    sym (sum-added n (parts a g f) (onlyIn a f))
+    ∙ sum-same n (added (parts a g f) (onlyIn a f)) (added (onlyIn a g) f) (λ k l. go k (a k))
+    ∙ sum-added n (onlyIn a g) f
   where
     go : (k : ℕ) (b : Bool) → if b (g k) (f k) + if b (f k) 0 ≡ if b (g k) 0 + f k
     go k true = omega arith
     go k false = omega arith
 
 -- so an overhaul with OFF in all other weeks comes from sums over its own weeks and OFF in all
-priced-shifted : (p : Problem) (u : ℕ → ℕ → ℕ) (i s : ℕ) → priced p u i s + spanSum p i s (turned (p .off) i)
-    ≡ spanSum p i s (added (turned (p .maint) i) (turned u i)) + offWeeks p i
+priced-shifted : (p : Problem) (u : ℕ → ℕ → ℕ) (i s : ℕ) → priced p u i s + spanSum p i s (transposed (p .off) i)
+    ≡ spanSum p i s (added (transposed (p .maint) i) (transposed u i)) + offWeeks p i
 unfolding priced spanSum offWeeks
 priced-shifted p u i s =
-    parts-shifted (p .weeks) (inSpan s (p .duration i)) (added (turned (p .maint) i) (turned u i)) (turned (p .off) i)
+    parts-shifted (p .weeks) (inSpan s (p .duration i)) (added (transposed (p .maint) i) (transposed u i)) (transposed (p .off) i)
 
 -- as the code adds and takes off
 pub priced-is : (ws : List ℕ) (l : Layout) (us : List ℕ) (i s c o a q r : ℕ) → StartAt ws l i s → Priced (problemOf ws) us
-    → c ≡ spanSum (problemOf ws) i s (pricedWeek ws us i) → o ≡ offIn us i → a ≡ c + o → q ≡ spanSum (problemOf ws) i s (turned (problemOf ws .off) i) → r ≡ a - q → r ≡ priced (problemOf ws) (priceIn us) i s
+    → c ≡ spanSum (problemOf ws) i s (pricedWeek ws us i) → o ≡ offIn us i → a ≡ c + o → q ≡ spanSum (problemOf ws) i s (transposed (problemOf ws .off) i) → r ≡ a - q → r ≡ priced (problemOf ws) (priceIn us) i s
 priced-is ws l us i s c o a q r at priced ec eo ea eq er =
     omega (arith, priced-shifted (problemOf ws) (priceIn us) i s, priced .offs .each i (omega (arith, at .unit, at .filed .units-are)))
 
 -- no more than the weeks of the overhaul and OFF in all of them
-pub priced-small : (ws : List ℕ) (l : Layout) (us : List ℕ) (i s c o a q r : ℕ) → StartAt ws l i s → Priced (problemOf ws) us → c ≤ 231103808
+pub priced-small : (ws : List ℕ) (l : Layout) (us : List ℕ) (i s c o a q r : ℕ) → StartAt ws l i s → Priced (problemOf ws) us → c ≤ MOST_SPAN
     → o ≡ offIn us i → a ≡ c + o → r ≡ a - q → r ≤ MOST_OVERHAUL
 priced-small ws l us i s c o a q r at priced few eo ea er =
     let unit : i < problemOf ws .units = omega (arith, at .unit, at .filed .units-are) in
@@ -139,9 +136,10 @@ pub record LeastTo (p : Problem) (u : ℕ → ℕ → ℕ) (i s v : ℕ) : Type 
 pub least-start : (p : Problem) (u : ℕ → ℕ → ℕ) (i a b : ℕ) → StartRange p i a b → LeastTo p u i a MOST_OVERHAUL
 least-start p u i a b g = record { below = λ q l e. absurd (omega (arith, range-at p i a b q g e .0)); small = omega arith }
 
--- one more
-pub least-next : (p : Problem) (u : ℕ → ℕ → ℕ) (i s v c r : ℕ) → LeastTo p u i s v → c ≡ priced p u i s → r ≤ v → r ≤ c → LeastTo p u i (s + 1) r
-least-next p u i s v c r h e low new = record { below = λ q l t. by q l t (ℕ-discrete q s); small = omega (arith, h .small) }
+-- one more: less what it is above the cost
+pub least-next : (p : Problem) (u : ℕ → ℕ → ℕ) (i s v c d r : ℕ) → LeastTo p u i s v → c ≡ priced p u i s → d ≡ v - c → r ≡ v - d
+    → LeastTo p u i (s + 1) r
+least-next p u i s v c d r h e above less = record { below = λ q l t. by q l t (ℕ-discrete q s); small = omega (arith, h .small) }
   where
     by : (q : ℕ) → q < s + 1 → permitted p i q ≡ true → Dec (q ≡ s) → r ≤ priced p u i q
     by q l t (yes z) = rw z (omega arith)

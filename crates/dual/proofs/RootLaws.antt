@@ -1,74 +1,64 @@
 -- What weeks are worth with nobody out, and all OFF costs and prices, a turn of each loop at a time.
 -- Assumes nothing.
 use Prim.Native.Nat.{ℕ, _+_, _*_, _≤_, _<_}
-use mathlib.Core.Path.{_≡_, refl, sym, _∙_, ap, subst}
+use mathlib.Core.Path.{_≡_, sym, _∙_, ap₂, subst}
 use mathlib.Core.Bool.{true}
 use mathlib.Core.List.{List}
+use native.Mathlib.Nat.{mul-le-mul-right}
 use native.Mathlib.Decide.{ℕ-discrete}
 use native.Mathlib.Omega.{arith}
-use lib.Dec.{ltb}
 use lib.ListN.{getD, set}
 use lib.Seq.{getD-set-same, getD-set-other}
-use borrow.Author.Tests.{lt-ltb}
-use Rattle.sums.specs.Sum.{sumTo, rowSum}
-use Rattle.sums.specs.NumSet.{has, pick}
-use Rattle.sums.proofs.SumLaws.{sum-same}
-use Rattle.sums.proofs.LoopLaws.{sum-next}
+use mir.Syntax.{w32}
+use mir.Val.{Fits}
+use Rattle.sums.specs.Sum.{sumTo, added, transposed, rowSum}
+use Rattle.sums.specs.NumSet.{has}
+use Rattle.sums.proofs.SumLaws.{sum-same, sum-at-most, sum-added, exchange}
 use Rattle.model.specs.declared.Layout.{Layout}
-use Rattle.model.specs.Problem.{Problem}
 use Rattle.model.specs.Domain.{permitted}
 use Rattle.model.specs.Words.{problemOf}
 use Rattle.model.proofs.DomainLaws.{permits-ends}
 use Rattle.model.proofs.FileLaws.{fair}
-use Rattle.model.specs.Commitment.{offCost}
 use Rattle.instance.specs.Filed.{Filed}
+use Rattle.overhaul.specs.Off.{offWeeks}
 use Rattle.blame.specs.Priced.{priceSum, offSum}
-use Rattle.tables.specs.Tables.{START_COSTS, ROOT_VALUES, TOTAL, priceIn, leastIn, excessIn, rootIn, totalIn, Begins}
-use Rattle.tables.proofs.TableLaws.{begins-put, begins-prices, begins-priced}
-use Rattle.relaxation.specs.Relaxed.{Value, Recalls}
+use Rattle.tables.specs.Tables.{START_COSTS, ROOT_VALUES, TOTAL, MOST_PRICE, MOST_OFF, priceIn, leastIn, excessIn, rootIn, totalIn, unitTotal, Priced, Begins}
+use Rattle.tables.proofs.TableLaws.{price-most, begins-put, begins-prices, begins-priced}
+use Rattle.relaxation.specs.Relaxed.{Value, MemoTrue}
 use Rattle.dual.specs.Dual.{Costs, Dual}
 use Rattle.dual.specs.Made.{CostsMade, RootsMade}
 
 -- ---- all OFF costs and all prices
 
--- OFF costs of a set that has all units
-off-all : (ws : List ℕ) (l : Layout) (t all : ℕ) → Filed ws l → ((k : ℕ) → has all k ≡ ltb k (l .units))
-    → offCost (problemOf ws) t (has all) ≡ sumTo (l .units) (problemOf ws .off t)
-unfolding offCost pick
-off-all ws l t all f h =
-    sum-same (problemOf ws .units) (pick (has all) (problemOf ws .off t)) (problemOf ws .off t)
-    (λ k b. rw (h k, lt-ltb k (l .units) (omega (arith, f .units-are))))
-    ∙ ap (λ (n : ℕ). sumTo n (problemOf ws .off t)) (f .units-are)
-
--- and the prices of the week
-pub week-total : (ws : List ℕ) (l : Layout) (us : List ℕ) (t all a b r : ℕ) → Filed ws l → ((k : ℕ) → has all k ≡ ltb k (l .units))
-    → a ≡ offCost (problemOf ws) t (has all) → b ≡ sumTo (l .units) (priceIn us t) → r ≡ a + b
-    → r ≡ sumTo (l .units) (problemOf ws .off t) + sumTo (l .units) (priceIn us t)
-week-total ws l us t all a b r f h ea eb er = omega (arith, off-all ws l t all f h)
-
--- none yet
-pub total-start : (o u : ℕ → ℕ → ℕ) (n : ℕ) → 0 ≡ sumTo 0 (rowSum n o) + sumTo 0 (rowSum n u)
-unfolding sumTo
-total-start o u n = refl
-
--- those of one week more
-pub total-next : (o u : ℕ → ℕ → ℕ) (n t s v r : ℕ) → s ≡ sumTo t (rowSum n o) + sumTo t (rowSum n u) → v ≡ sumTo n (o t) + sumTo n (u t)
-    → r ≡ s + v → r ≡ sumTo (t + 1) (rowSum n o) + sumTo (t + 1) (rowSum n u)
-unfolding rowSum
-total-next o u n t s v r hs hv hr =
-    let a = sum-next (rowSum n o) t (sumTo t (rowSum n o)) (sumTo n (o t)) (sumTo t (rowSum n o) + sumTo n (o t)) refl refl refl in
-    let b = sum-next (rowSum n u) t (sumTo t (rowSum n u)) (sumTo n (u t)) (sumTo t (rowSum n u) + sumTo n (u t)) refl refl refl in
-    omega (arith, a, b)
-
--- of all weeks
-pub total-ended : (ws : List ℕ) (l : Layout) (u : ℕ → ℕ → ℕ) (t weeks r : ℕ) → Filed ws l → weeks ≡ l .weeks → t ≤ weeks → weeks ≤ t
-    → r ≡ sumTo t (rowSum (l .units) (problemOf ws .off)) + sumTo t (rowSum (l .units) u) → r ≡ offSum (problemOf ws) + priceSum (problemOf ws) u
-unfolding priceSum offSum
-total-ended ws l u t weeks r f e a b h =
+-- unit by unit they are the sum week by week
+total-is : (ws : List ℕ) (l : Layout) (us : List ℕ) → Filed ws l → Priced (problemOf ws) us
+    → sumTo (l .units) (unitTotal us (l .weeks)) ≡ offSum (problemOf ws) + priceSum (problemOf ws) (priceIn us)
+unfolding unitTotal offSum priceSum offWeeks rowSum added
+total-is ws l us f priced =
     let p = problemOf ws in
-    let w : t ≡ p .weeks = omega (arith, f .weeks-are) in
-    h ∙ ap (λ (m : ℕ). sumTo m (rowSum (l .units) (p .off)) + sumTo m (rowSum (l .units) u)) w
-    ∙ ap (λ (n : ℕ). sumTo (p .weeks) (rowSum n (p .off)) + sumTo (p .weeks) (rowSum n u)) (sym (f .units-are))
+    rw (← f .units-are, ← f .weeks-are)
+    (sum-same (p .units) (unitTotal us (p .weeks)) (added (rowSum (p .weeks) (transposed (p .off))) (rowSum (p .weeks) (transposed (priceIn us)))) each
+    ∙ sum-added (p .units) (rowSum (p .weeks) (transposed (p .off))) (rowSum (p .weeks) (transposed (priceIn us)))
+    ∙ ap₂ (λ (a b : ℕ). a + b) (sym (exchange (p .weeks) (p .units) (p .off))) (sym (exchange (p .weeks) (p .units) (priceIn us))))
+  where
+    each : (i : ℕ) → i < problemOf ws .units
+        → unitTotal us (problemOf ws .weeks) i ≡ added (rowSum (problemOf ws .weeks) (transposed (problemOf ws .off))) (rowSum (problemOf ws .weeks) (transposed (priceIn us))) i
+    each i few = rw (priced .offs .each i few)
+
+-- no unit has more than 52 weeks OFF and 52 prices
+total-most : (ws : List ℕ) (l : Layout) (us : List ℕ) → Filed ws l → Priced (problemOf ws) us
+    → sumTo (l .units) (unitTotal us (l .weeks)) ≤ l .units * (MOST_OFF + 52 * MOST_PRICE)
+unfolding unitTotal transposed
+total-most ws l us f priced = sum-at-most (l .units) (MOST_OFF + 52 * MOST_PRICE) (unitTotal us (l .weeks)) each
+  where
+    each : (i : ℕ) → i < l .units → unitTotal us (l .weeks) i ≤ MOST_OFF + 52 * MOST_PRICE
+    each i few =
+        omega (
+          arith,
+          priced .offs .small i (omega (arith, f .units-are)),
+          sum-at-most (l .weeks) MOST_PRICE (transposed (priceIn us) i) (λ t m. price-most us t i (priced .prices)),
+          mul-le-mul-right MOST_PRICE (f .weeks-most),
+        )
 
 -- ---- what weeks are worth
 
@@ -142,8 +132,14 @@ module _ (ws : List ℕ) (l : Layout) (us xs : List ℕ) (v : ℕ) (h : RootsMad
   same : priceIn (set xs TOTAL v) ≡ priceIn us
   same = begins-prices START_COSTS us (set xs TOTAL v) begins (omega arith)
 
-  -- with the total in its place the table has all its parts
-  pub dual-of : v ≡ offSum (problemOf ws) + priceSum (problemOf ws) (priceIn us) → Dual (problemOf ws) (set xs TOTAL v)
+  -- the total is a word
+  pub total-fits : v ≡ sumTo (l .units) (unitTotal us (l .weeks)) → Fits w32 v
+  total-fits is = record {
+    fits = omega (arith, f .units-most, total-most ws l us f (h .made .priced), mul-le-mul-right (MOST_OFF + 52 * MOST_PRICE) (f .units-most));
+  }
+
+  -- with it in its place the table has all its parts
+  pub dual-of : v ≡ sumTo (l .units) (unitTotal us (l .weeks)) → Dual (problemOf ws) (set xs TOTAL v)
   unfolding rootIn totalIn
   dual-of is = record {
     priced = begins-priced ws l START_COSTS us (set xs TOTAL v) f begins (omega arith) (h .made .priced);
@@ -154,9 +150,9 @@ module _ (ws : List ℕ) (l : Layout) (us xs : List ℕ) (v : ℕ) (h : RootsMad
           rw (getD-set-other xs TOTAL (ROOT_VALUES + t) v 0 (λ z. omega (arith, f .weeks-most, f .weeks-are)))
           (h .roots .each t (omega (arith, f .weeks-are)));
     });
-    total = getD-set-same xs TOTAL v 0 (omega (arith, h .made .begins .long)) ∙ rw same is;
+    total = getD-set-same xs TOTAL v 0 (omega (arith, h .made .begins .long)) ∙ rw same (is ∙ total-is ws l us f (h .made .priced));
   }
 
-  -- a memory recalls at its prices
-  pub recalls-of : (memo : List ℕ) → Recalls (problemOf ws) (priceIn us) memo → Recalls (problemOf ws) (priceIn (set xs TOTAL v)) memo
+  -- a memo recalls at its prices
+  pub recalls-of : (memo : List ℕ) → MemoTrue (problemOf ws) (priceIn us) memo → MemoTrue (problemOf ws) (priceIn (set xs TOTAL v)) memo
   recalls-of memo r = rw same r

@@ -8,6 +8,7 @@ use lib.ListN.{length}
 use lib.Dec.{ltb}
 use Rattle.sums.specs.Sum.{sumTo, shifted}
 use Rattle.sums.specs.NumSet.{has}
+use Rattle.sums.specs.Table.{entry}
 use Rattle.model.specs.declared.Layout.{Layout}
 use Rattle.model.specs.Problem.{Problem}
 use Rattle.model.specs.Domain.{permitted}
@@ -15,12 +16,16 @@ use Rattle.model.specs.Schedule.{outIn}
 use Rattle.model.specs.Words.{problemOf}
 use Rattle.instance.specs.declared.Euro.{Euro}
 use Rattle.instance.specs.Filed.{Filed}
-use Rattle.blame.specs.Closed.{startIn, Closed}
+use Rattle.blame.specs.Closed.{Closed}
 use Rattle.blame.specs.Placed.{firstUnits}
 use Rattle.tables.specs.Tables.{excessIn, rootIn, totalIn}
-use Rattle.dual.specs.declared.Kept.{Kept}
+use Rattle.dual.specs.declared.BlameLeft.{BlameLeft}
 use Rattle.dual.specs.declared.Node.{Node}
-use Rattle.dual.specs.Dual.{Dual, worthIn, Bounds}
+use Rattle.dual.specs.Dual.{Dual, Bounds}
+
+-- what a bound has to come to at most: the highest limit, all OFF costs and all prices
+abbrev pub MOST_WANTED : ℕ
+MOST_WANTED = 8589934592
 
 -- a node with one unit more placed, at this bound
 abbrev pub nextNode : Node → Euro → Node
@@ -39,66 +44,66 @@ pub record Bounded (ws : List ℕ) (l : Layout) (us : List ℕ) (node : Node) (x
   pub filed : Filed ws l
   pub dual : Dual (problemOf ws) us
   pub placed : node .unit ≤ l .units
-  pub permits : PermitsTo (problemOf ws) (startIn (node .starts)) (node .unit)
-  pub bounds : Bounds (problemOf ws) us (firstUnits (node .unit)) (startIn (node .starts)) xs (node .bound .0)
+  pub permits : PermitsTo (problemOf ws) (entry (node .starts)) (node .unit)
+  pub bounds : Bounds (problemOf ws) us (firstUnits (node .unit)) (entry (node .starts)) xs (node .bound .0)
 
 -- the units to blame, of those placed: where the bound comes to the limit and the total, their starts are a dead end; else all of them
 pub record Blamed (p : Problem) (us : List ℕ) (node : Node) (limit b : ℕ) : Type 0 where
   pub within : (i : ℕ) → has b i ≡ true → i < node .unit
-  pub closed : limit + totalIn us ≤ node .bound .0 → Closed p (has b) (startIn (node .starts)) limit
+  pub closed : limit + totalIn us ≤ node .bound .0 → Closed p (has b) (entry (node .starts)) limit
   pub all : node .bound .0 < limit + totalIn us → (i : ℕ) → has b i ≡ ltb i (node .unit)
 
 -- ---- fewer units to blame
 
--- what a week is worth above its worth with nobody out
+-- what a week is worth above its value with nobody out
 unfoldable pub gainIn : (us xs : List ℕ) → ℕ → ℕ
-unfolding worthIn
-gainIn us xs t = worthIn xs t - rootIn us t
+unfolding entry
+gainIn us xs t = entry xs t - rootIn us t
 
 -- what the bound loses without unit i
 unfoldable pub lossOf : Problem → (us : List ℕ) → (ℕ → ℕ) → List ℕ → ℕ → ℕ
 unfolding gainIn
 lossOf p us starts xs i = excessIn us i (starts i) + sumTo (p .duration i) (shifted (starts i - 1) (gainIn us xs))
 
--- the first k weeks from week a on are put back to their worth with nobody out, the others are as they were
+-- the first k weeks from week a on are put back to their value with nobody out, the others are as they were
 pub record BackTo (us : List ℕ) (a k : ℕ) (xs ys : List ℕ) : Type 0 where
   pub long : length ys ≡ 52
-  pub inside : (t : ℕ) → a ≤ t → t < a + k → worthIn ys t ≡ rootIn us t
-  pub before : (t : ℕ) → t < a → worthIn ys t ≡ worthIn xs t
-  pub after : (t : ℕ) → a + k ≤ t → worthIn ys t ≡ worthIn xs t
+  pub inside : (t : ℕ) → a ≤ t → t < a + k → entry ys t ≡ rootIn us t
+  pub before : (t : ℕ) → t < a → entry ys t ≡ entry xs t
+  pub after : (t : ℕ) → a + k ≤ t → entry ys t ≡ entry xs t
 
--- the weeks of unit i's overhaul are put back to their worth with nobody out
+-- the weeks of unit i's overhaul are put back to their value with nobody out
 pub record PutBack (p : Problem) (us : List ℕ) (starts : ℕ → ℕ) (i : ℕ) (xs ys : List ℕ) : Type 0 where
   pub long : length ys ≡ 52
-  pub inside : (t : ℕ) → t < p .weeks → outIn p starts t i ≡ true → worthIn ys t ≡ rootIn us t
-  pub outside : (t : ℕ) → t < p .weeks → outIn p starts t i ≡ false → worthIn ys t ≡ worthIn xs t
+  pub inside : (t : ℕ) → t < p .weeks → outIn p starts t i ≡ true → entry ys t ≡ rootIn us t
+  pub outside : (t : ℕ) → t < p .weeks → outIn p starts t i ≡ false → entry ys t ≡ entry xs t
 
 -- units whose starts keep the bound where it is wanted
-pub record Thins (p : Problem) (us : List ℕ) (starts : ℕ → ℕ) (wanted : ℕ) (kept : Kept) (xs : List ℕ) : Type 0 where
+pub record ShrinksTo (p : Problem) (us : List ℕ) (starts : ℕ → ℕ) (wanted : ℕ) (kept : BlameLeft) (xs : List ℕ) : Type 0 where
   pub bounds : Bounds p us (has (kept .units)) starts xs (kept .sum .0)
   pub reaches : wanted ≤ kept .sum .0
 
 -- units fewer than those that were kept, with which the bound is still where it is wanted
-pub record Dropped (p : Problem) (us : List ℕ) (starts : ℕ → ℕ) (wanted : ℕ) (kept r : Kept) (xs : List ℕ) : Type 0 where
-  pub thins : Thins p us starts wanted r xs
+pub record Dropped (p : Problem) (us : List ℕ) (starts : ℕ → ℕ) (wanted : ℕ) (kept r : BlameLeft) (xs : List ℕ) : Type 0 where
+  pub thins : ShrinksTo p us starts wanted r xs
   pub fewer : (n : ℕ) → has (r .units) n ≡ true → has (kept .units) n ≡ true
 
--- the same with some worths of the weeks, of units below k
-pub record Thinned (p : Problem) (us : List ℕ) (starts : ℕ → ℕ) (k wanted : ℕ) (kept : Kept) : Type 0 where
+-- the same with some values of the weeks, of units below k
+pub record Shrunk (p : Problem) (us : List ℕ) (starts : ℕ → ℕ) (k wanted : ℕ) (kept : BlameLeft) : Type 0 where
   pub xs : List ℕ
-  pub thins : Thins p us starts wanted kept xs
+  pub thins : ShrinksTo p us starts wanted kept xs
   pub within : (i : ℕ) → has (kept .units) i ≡ true → i < k
 
--- unit i at its permitted start, with the weeks' worths
+-- unit i at its permitted start, with the weeks' values
 pub record OverhaulAt (ws : List ℕ) (l : Layout) (starts : List ℕ) (i : ℕ) (xs : List ℕ) : Type 0 where
   pub filed : Filed ws l
   pub unit : i < l .units
-  pub permits : permitted (problemOf ws) i (startIn starts i) ≡ true
+  pub permits : permitted (problemOf ws) i (entry starts i) ≡ true
   pub long : length xs ≡ 52
 
 -- it may be dropped from the units that keep the bound where it is wanted
-pub record Dropping (ws : List ℕ) (l : Layout) (us starts : List ℕ) (i wanted : ℕ) (kept : Kept) (xs : List ℕ) : Type 0 where
+pub record Dropping (ws : List ℕ) (l : Layout) (us starts : List ℕ) (i wanted : ℕ) (kept : BlameLeft) (xs : List ℕ) : Type 0 where
   pub at : OverhaulAt ws l starts i xs
   pub dual : Dual (problemOf ws) us
-  pub few : wanted ≤ 8589934592
-  pub thins : Thins (problemOf ws) us (startIn starts) wanted kept xs
+  pub few : wanted ≤ MOST_WANTED
+  pub thins : ShrinksTo (problemOf ws) us (entry starts) wanted kept xs

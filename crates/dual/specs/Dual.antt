@@ -7,7 +7,8 @@ use mathlib.Core.Bool.{true}
 use mathlib.Core.List.{List}
 use lib.ListN.{length, getD}
 use Rattle.sums.specs.Sum.{sumTo}
-use Rattle.sums.specs.NumSet.{NumSet, pick, has}
+use Rattle.sums.specs.NumSet.{NumSet, onlyIn, has}
+use Rattle.sums.specs.Table.{entry}
 use Rattle.model.specs.Problem.{Problem}
 use Rattle.model.specs.Domain.{permitted}
 use Rattle.model.specs.Schedule.{inSpan}
@@ -21,7 +22,11 @@ use Rattle.relaxation.specs.Relaxed.{Value}
 
 -- a sum over the weeks of unit i's overhaul from start s
 unfoldable pub spanSum : Problem → (i s : ℕ) → (ℕ → ℕ) → ℕ
-spanSum p i s f = sumTo (p .weeks) (pick (inSpan s (p .duration i)) f)
+spanSum p i s f = sumTo (p .weeks) (onlyIn (inSpan s (p .duration i)) f)
+
+-- what these weeks cost at most, their prices included: 52 weeks at 250,000 and the highest price
+abbrev pub MOST_SPAN : ℕ
+MOST_SPAN = 231103808
 
 -- ---- the table
 
@@ -49,19 +54,15 @@ pub record Dual (p : Problem) (xs : List ℕ) : Type 0 where
 pub record LeastFrom (p : Problem) (u : ℕ → ℕ → ℕ) (i v : ℕ) : Type 0 where
   pub below : (s : ℕ) → permitted p i s ≡ true → v ≤ priced p u i s
 
--- what a week is worth
-unfoldable pub worthIn : List ℕ → ℕ → ℕ
-worthIn xs t = getD xs t 0
-
 -- ---- the bound
 
--- for each week a worth that holds with the units of `out t` out, and others perhaps
-pub record Worths (p : Problem) (u : ℕ → ℕ → ℕ) (out : ℕ → NumSet) (xs : List ℕ) : Type 0 where
+-- for each week a value that holds with the units of `out t` out, and others perhaps
+pub record WeekValues (p : Problem) (u : ℕ → ℕ → ℕ) (out : ℕ → NumSet) (xs : List ℕ) : Type 0 where
   pub long : length xs ≡ 52
-  pub least : (t : ℕ) → t < p .weeks → WeekLeast p u t (out t) (worthIn xs t)
-  pub small : (t : ℕ) → t < p .weeks → worthIn xs t ≤ NO_RUN
+  pub least : (t : ℕ) → t < p .weeks → WeekLeast p u t (out t) (entry xs t)
+  pub small : (t : ℕ) → t < p .weeks → entry xs t ≤ NO_RUN
 
--- the starts of the units of b, the others at their least, and the weeks' worths come to at least this
+-- the starts of the units of b, the others at their least, and the weeks' values come to at least this
 pub record Bounds (p : Problem) (us : List ℕ) (b : NumSet) (starts : ℕ → ℕ) (xs : List ℕ) (sum : ℕ) : Type 0 where
-  pub worths : Worths p (priceIn us) (outOf p b starts) xs
-  pub under : sum ≤ lowerBound p (priceIn us) b starts (leastIn us) (worthIn xs)
+  pub values : WeekValues p (priceIn us) (outOf p b starts) xs
+  pub under : sum ≤ lowerBound p (priceIn us) b starts (leastIn us) (entry xs)

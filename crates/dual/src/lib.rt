@@ -8,21 +8,20 @@ use tables::TABLES;
 use tables::TOTAL;
 ghost use mathlib.Core.Path.{_≡_};
 ghost use mathlib.Core.Bool.{true};
-ghost use Prim.Native.Nat.{ℕ, _+_, _-_, _*_, _<_, _≤_};
+ghost use Prim.Native.Nat.{_+_, _-_, _*_, _<_, _≤_};
 ghost use lib.ListN.{length};
-ghost use Rattle.sums.specs.Sum.{sumTo, added, turned, shifted};
-ghost use Rattle.sums.specs.NumSet.{has};
+ghost use Rattle.sums.specs.Sum.{sumTo, added, transposed, shifted};
+ghost use Rattle.sums.specs.Table.{entry};
 ghost use Rattle.model.specs.Domain.{permitted};
 ghost use Rattle.model.specs.Nogood.{MOST_LIMIT};
 ghost use Rattle.model.specs.Words.{problemOf};
 ghost use Rattle.instance.specs.Filed.{Filed};
-ghost use Rattle.blame.specs.Closed.{startIn};
-ghost use Rattle.blame.specs.Priced.{priced, priceSum, offSum};
-ghost use Rattle.tables.specs.Tables.{TABLES, priceIn, totalIn, Prices, Priced};
-ghost use Rattle.relaxation.specs.Relaxed.{WeekAt, Recalls};
-ghost use Rattle.dual.specs.Dual.{MOST_OVERHAUL, spanSum, Dual, LeastFrom};
+ghost use Rattle.blame.specs.Priced.{priced};
+ghost use Rattle.tables.specs.Tables.{TABLES, AMOUNTS, priceIn, totalIn, Priced};
+ghost use Rattle.relaxation.specs.Relaxed.{MemoTrue};
+ghost use Rattle.dual.specs.Dual.{MOST_OVERHAUL, MOST_SPAN, spanSum, Dual, LeastFrom};
 ghost use Rattle.dual.specs.Made.{UnitAt, StartAt, CostsMade, CostsTo, RootsMade};
-ghost use Rattle.dual.specs.Blame.{nextNode, withBound, Bounded, Blamed, OverhaulAt, gainIn, lossOf, BackTo, PutBack, Dropping, Dropped, Thinned};
+ghost use Rattle.dual.specs.Blame.{MOST_WANTED, nextNode, withBound, Bounded, Blamed, OverhaulAt, gainIn, lossOf, BackTo, PutBack, Dropping, Dropped, Shrunk};
 
 // What the overhaul of a unit costs at most: 52 weeks at 250,000 and the highest price, and 52 at 250,000.
 pub const MOST_OVERHAUL: u64 = 268435456;
@@ -64,7 +63,7 @@ pub fn with_bound(node: Node, bound: Euro) -> Node
 // What unit i would cost OFF in the weeks of its overhaul from a permitted start.
 fn span_off(words: &[u32], l: Layout, i: usize, start: usize) -> Euro
     requires { ⌜ StartAt (now words) l i start ⌝ }
-    ensures { λ r. ⌜ r .0 ≡ spanSum (problemOf (now (words .entry))) i start (turned (problemOf (now (words .entry)) .off) i) ⌝ }
+    ensures { λ r. ⌜ r .0 ≡ spanSum (problemOf (now (words .entry))) i start (transposed (problemOf (now (words .entry)) .off) i) ⌝ }
 {
     let duration = instance::duration(words, l, i);
     let first = start - 1;
@@ -79,7 +78,7 @@ fn span_off(words: &[u32], l: Layout, i: usize, start: usize) -> Euro
 fn span_cost(words: &[u32], l: Layout, tables: &[u32; TABLES], i: usize, start: usize) -> Euro
     requires { ⌜ StartAt (now words) l i start × Priced (problemOf (now words)) (now tables) ⌝ }
     ensures { λ r. ⌜ (r .0 ≡ spanSum (problemOf (now (words .entry))) i start
-        (added (turned (problemOf (now (words .entry)) .maint) i) (turned (priceIn (now (tables .entry))) i))) × (r .0 ≤ 231103808) ⌝ }
+        (added (transposed (problemOf (now (words .entry)) .maint) i) (transposed (priceIn (now (tables .entry))) i))) × (r .0 ≤ MOST_SPAN) ⌝ }
 {
     let duration = instance::duration(words, l, i);
     let first = start - 1;
@@ -104,16 +103,6 @@ fn priced_cost(words: &[u32], l: Layout, tables: &[u32; TABLES], i: usize, start
     all.less(inside)
 }
 
-// The smaller of two costs.
-fn smaller(a: Euro, b: Euro) -> Euro
-    ensures { λ r. ⌜ (r .0 ≤ a .0) × (r .0 ≤ b .0) ⌝ }
-{
-    if a.0 < b.0 {
-        return a;
-    }
-    b
-}
-
 // At most what it costs from any permitted start.
 fn least_priced(words: &[u32], l: Layout, tables: &[u32; TABLES], i: usize) -> Euro
     requires { ⌜ UnitAt (now words) l (now tables) i ⌝ }
@@ -123,7 +112,8 @@ fn least_priced(words: &[u32], l: Layout, tables: &[u32; TABLES], i: usize) -> E
     let mut least = Euro(MOST_OVERHAUL);
     for s in starts.first..starts.last + 1 {
         let cost = priced_cost(words, l, tables, i, s);
-        least = smaller(least, cost);
+        // The smaller of the two: the least so far, less what it is above this cost.
+        least = least.less(least.less(cost));
     }
     least
 }
@@ -187,43 +177,6 @@ fn put_all_costs(words: &[u32], l: Layout, tables: &[u32; TABLES], next: &mut [u
 
 // ---- what weeks are worth with nobody out
 
-// The prices of all units in week t.
-fn week_prices(l: Layout, tables: &[u32; TABLES], t: usize) -> Euro
-    requires { ⌜ (t < 52) × (l .units ≤ 16) × Prices (now tables) ⌝ }
-    ensures { λ r. ⌜ (r .0 ≡ sumTo (l .units) (priceIn (now (tables .entry)) t)) × (r .0 ≤ 67108864) ⌝ }
-{
-    let units = l.units;
-    let mut sum = Euro(0);
-    for i in 0..units {
-        sum = sum.plus(tables::price(tables, t, i));
-    }
-    sum
-}
-
-// All OFF costs and all prices of week t.
-fn week_total(words: &[u32], l: Layout, tables: &[u32; TABLES], t: usize) -> Euro
-    requires { ⌜ WeekAt (now words) l (now tables) t ⌝ }
-    ensures { λ r. ⌜ (r .0 ≡ sumTo (l .units) (problemOf (now (words .entry)) .off t) + sumTo (l .units) (priceIn (now (tables .entry)) t))
-        × (r .0 ≤ 71108864) ⌝ }
-{
-    let off = instance::off_sum(words, l, t, sets::below(l.units));
-    off.plus(week_prices(l, tables, t))
-}
-
-// All OFF costs and all prices.
-fn total(words: &[u32], l: Layout, tables: &[u32; TABLES]) -> Euro
-    requires { ⌜ Filed (now words) l × Priced (problemOf (now words)) (now tables) ⌝ }
-    ensures { λ r. ⌜ (r .0 ≡ offSum (problemOf (now (words .entry))) + priceSum (problemOf (now (words .entry))) (priceIn (now (tables .entry))))
-        × (r .0 ≤ 3697660928) ⌝ }
-{
-    let weeks = l.weeks;
-    let mut sum = Euro(0);
-    for t in 0..weeks {
-        sum = sum.plus(week_total(words, l, tables, t));
-    }
-    sum
-}
-
 // Puts what week t is worth with nobody out into a table that has the weeks before it.
 fn put_root(
     words: &[u32],
@@ -233,12 +186,12 @@ fn put_root(
     next: &mut [u32; TABLES],
     memo: &mut [u32],
 )
-    requires { ⌜ RootsMade (now words) l (now tables) t (now next) × (t < l .weeks) × Recalls (problemOf (now words)) (priceIn (now tables)) (now memo) ⌝ }
+    requires { ⌜ RootsMade (now words) l (now tables) t (now next) × (t < l .weeks) × MemoTrue (problemOf (now words)) (priceIn (now tables)) (now memo) ⌝ }
     ensures answer { λ r. ⌜ RootsMade (now (words .entry)) l (now (tables .entry)) (t + 1) (now (next .exit)) ⌝ }
-    ensures recalls { λ r. ⌜ Recalls (problemOf (now (words .entry))) (priceIn (now (tables .entry))) (now (memo .exit)) ⌝ }
+    ensures recalls { λ r. ⌜ MemoTrue (problemOf (now (words .entry))) (priceIn (now (tables .entry))) (now (memo .exit)) ⌝ }
 {
-    let worth = relaxation::week_value(words, l, tables, t, 0, memo);
-    next[ROOT_VALUES + t] = worth.0 as u32;
+    let value = relaxation::week_value(words, l, tables, t, 0, memo);
+    next[ROOT_VALUES + t] = value.0 as u32;
 }
 
 // Puts what each week is worth with nobody out into a table that has all units' costs.
@@ -249,9 +202,9 @@ fn put_roots(
     next: &mut [u32; TABLES],
     memo: &mut [u32],
 )
-    requires { ⌜ CostsMade (now words) l (now tables) (l .units) (now next) × Recalls (problemOf (now words)) (priceIn (now tables)) (now memo) ⌝ }
+    requires { ⌜ CostsMade (now words) l (now tables) (l .units) (now next) × MemoTrue (problemOf (now words)) (priceIn (now tables)) (now memo) ⌝ }
     ensures answer { λ r. ⌜ RootsMade (now (words .entry)) l (now (tables .entry)) (l .weeks) (now (next .exit)) ⌝ }
-    ensures recalls { λ r. ⌜ Recalls (problemOf (now (words .entry))) (priceIn (now (tables .entry))) (now (memo .exit)) ⌝ }
+    ensures recalls { λ r. ⌜ MemoTrue (problemOf (now (words .entry))) (priceIn (now (tables .entry))) (now (memo .exit)) ⌝ }
 {
     let weeks = l.weeks;
     for t in 0..weeks {
@@ -260,91 +213,96 @@ fn put_roots(
 }
 
 // The table with all its parts, from one that has prices, partners and OFF costs.
-pub fn filled(words: &[u32], l: Layout, tables: &[u32; TABLES], memo: &mut [u32]) -> [u32; TABLES]
-    requires { ⌜ Filed (now words) l × Priced (problemOf (now words)) (now tables) × Recalls (problemOf (now words)) (priceIn (now tables)) (now memo) ⌝ }
+pub fn fill_tables(
+    words: &[u32],
+    l: Layout,
+    tables: &[u32; TABLES],
+    memo: &mut [u32],
+) -> [u32; TABLES]
+    requires { ⌜ Filed (now words) l × Priced (problemOf (now words)) (now tables) × MemoTrue (problemOf (now words)) (priceIn (now tables)) (now memo) ⌝ }
     ensures answer { λ r. ⌜ Dual (problemOf (now (words .entry))) r ⌝ }
-    ensures recalls { λ r. ⌜ Recalls (problemOf (now (words .entry))) (priceIn r) (now (memo .exit)) ⌝ }
+    ensures recalls { λ r. ⌜ MemoTrue (problemOf (now (words .entry))) (priceIn r) (now (memo .exit)) ⌝ }
 {
     let mut next = *tables;
     put_all_costs(words, l, tables, &mut next);
     put_roots(words, l, tables, &mut next, memo);
-    next[TOTAL] = total(words, l, tables).0 as u32;
+    next[TOTAL] = tables::sum_total(l, tables).0 as u32;
     next
 }
 
 // ---- who is to blame
 
 // Units whose starts keep the bound up, and the bound.
-struct Kept {
+struct BlameLeft {
     units: u32,
     sum: Euro,
 }
 
-// What week t is worth above its worth with nobody out.
-fn gain(tables: &[u32; TABLES], worths: &[u32], t: usize) -> Euro
-    requires { ⌜ (t < 52) × (length (now worths) ≡ 52) ⌝ }
-    ensures { λ r. ⌜ (r .0 ≡ gainIn (now (tables .entry)) (now (worths .entry)) t) × (r .0 < 4294967296) ⌝ }
+// What week t is worth above its value with nobody out.
+fn gain(tables: &[u32; TABLES], values: &[u32], t: usize) -> Euro
+    requires { ⌜ (t < 52) × (length (now values) ≡ 52) ⌝ }
+    ensures { λ r. ⌜ (r .0 ≡ gainIn (now (tables .entry)) (now (values .entry)) t) × (r .0 < AMOUNTS) ⌝ }
 {
-    let worth = tables::amount(worths[t]);
-    worth.less(tables::root_value(tables, t))
+    let value = tables::amount(values[t]);
+    value.less(tables::root_value(tables, t))
 }
 
-// What these weeks are worth together above their worth with nobody out.
-fn gains(tables: &[u32; TABLES], worths: &[u32], first: usize, duration: usize) -> Euro
-    requires { ⌜ (first + duration ≤ 52) × (length (now worths) ≡ 52) ⌝ }
-    ensures { λ r. ⌜ (r .0 ≡ sumTo duration (shifted first (gainIn (now (tables .entry)) (now (worths .entry))))) × (r .0 ≤ 281474976710656) ⌝ }
+// What these weeks are worth together above their value with nobody out.
+fn gains(tables: &[u32; TABLES], values: &[u32], first: usize, duration: usize) -> Euro
+    requires { ⌜ (first + duration ≤ 52) × (length (now values) ≡ 52) ⌝ }
+    ensures { λ r. ⌜ (r .0 ≡ sumTo duration (shifted first (gainIn (now (tables .entry)) (now (values .entry))))) × (r .0 ≤ 52 * AMOUNTS) ⌝ }
 {
     let mut sum = Euro(0);
     for k in 0..duration {
-        sum = sum.plus(gain(tables, worths, first + k));
+        sum = sum.plus(gain(tables, values, first + k));
     }
     sum
 }
 
-// What the bound loses without unit i: what it costs above its least, and what its weeks are worth above their worth with nobody out.
+// What the bound loses without unit i: what it costs above its least, and what its weeks are worth above their value with nobody out.
 fn loss(
     words: &[u32],
     l: Layout,
     tables: &[u32; TABLES],
     starts: [u8; 16],
     i: usize,
-    worths: &[u32],
+    values: &[u32],
 ) -> Euro
-    requires { ⌜ OverhaulAt (now words) l starts i (now worths) ⌝ }
-    ensures { λ r. ⌜ (r .0 ≡ lossOf (problemOf (now (words .entry))) (now (tables .entry)) (startIn starts) (now (worths .entry)) i)
-        × (r .0 ≤ 562949953421312) ⌝ }
+    requires { ⌜ OverhaulAt (now words) l starts i (now values) ⌝ }
+    ensures { λ r. ⌜ (r .0 ≡ lossOf (problemOf (now (words .entry))) (now (tables .entry)) (entry starts) (now (values .entry)) i)
+        × (r .0 ≤ 53 * AMOUNTS) ⌝ }
 {
     let start = starts[i] as usize;
     let duration = instance::duration(words, l, i);
     let own = tables::excess(tables, i, start);
-    own.plus(gains(tables, worths, start - 1, duration))
+    own.plus(gains(tables, values, start - 1, duration))
 }
 
-// Puts these weeks back to their worth with nobody out.
-fn put_weeks_back(tables: &[u32; TABLES], first: usize, duration: usize, worths: &mut [u32])
-    requires { ⌜ (first + duration ≤ 52) × (length (now worths) ≡ 52) ⌝ }
-    ensures { λ r. ⌜ BackTo (now (tables .entry)) first duration (now (worths .entry)) (now (worths .exit)) ⌝ }
+// Puts these weeks back to their value with nobody out.
+fn put_weeks_back(tables: &[u32; TABLES], first: usize, duration: usize, values: &mut [u32])
+    requires { ⌜ (first + duration ≤ 52) × (length (now values) ≡ 52) ⌝ }
+    ensures { λ r. ⌜ BackTo (now (tables .entry)) first duration (now (values .entry)) (now (values .exit)) ⌝ }
 {
     for k in 0..duration {
-        worths[first + k] = tables::root_value(tables, first + k).0 as u32;
+        values[first + k] = tables::root_value(tables, first + k).0 as u32;
     }
 }
 
-// Puts the weeks of unit i's overhaul back to their worth with nobody out.
+// Puts the weeks of unit i's overhaul back to their value with nobody out.
 fn put_back(
     words: &[u32],
     l: Layout,
     tables: &[u32; TABLES],
     starts: [u8; 16],
     i: usize,
-    worths: &mut [u32],
+    values: &mut [u32],
 )
-    requires { ⌜ OverhaulAt (now words) l starts i (now worths) ⌝ }
-    ensures { λ r. ⌜ PutBack (problemOf (now (words .entry))) (now (tables .entry)) (startIn starts) i (now (worths .entry)) (now (worths .exit)) ⌝ }
+    requires { ⌜ OverhaulAt (now words) l starts i (now values) ⌝ }
+    ensures { λ r. ⌜ PutBack (problemOf (now (words .entry))) (now (tables .entry)) (entry starts) i (now (values .entry)) (now (values .exit)) ⌝ }
 {
     let start = starts[i] as usize;
     let duration = instance::duration(words, l, i);
-    put_weeks_back(tables, start - 1, duration, worths);
+    put_weeks_back(tables, start - 1, duration, values);
 }
 
 // Drops unit i where the bound still comes to what is wanted.
@@ -355,45 +313,45 @@ fn drop_unit(
     starts: [u8; 16],
     i: usize,
     wanted: Euro,
-    kept: Kept,
-    worths: &mut [u32],
-) -> Kept
-    requires { ⌜ Dropping (now words) l (now tables) starts i (wanted .0) kept (now worths) ⌝ }
-    ensures { λ r. ⌜ Dropped (problemOf (now (words .entry))) (now (tables .entry)) (startIn starts) (wanted .0) kept r (now (worths .exit)) ⌝ }
+    kept: BlameLeft,
+    values: &mut [u32],
+) -> BlameLeft
+    requires { ⌜ Dropping (now words) l (now tables) starts i (wanted .0) kept (now values) ⌝ }
+    ensures { λ r. ⌜ Dropped (problemOf (now (words .entry))) (now (tables .entry)) (entry starts) (wanted .0) kept r (now (values .exit)) ⌝ }
 {
-    let less = loss(words, l, tables, starts, i, worths);
+    let less = loss(words, l, tables, starts, i, values);
     if kept.sum.0 < wanted.0 + less.0 {
         return kept;
     }
-    put_back(words, l, tables, starts, i, worths);
-    Kept {
+    put_back(words, l, tables, starts, i, values);
+    BlameLeft {
         units: sets::without(kept.units, i),
         sum: Euro(kept.sum.0 - less.0),
     }
 }
 
 // Drops units of those placed, the last first, where the bound still comes to what is wanted.
-fn thinned(
+fn shrink_blame(
     words: &[u32],
     l: Layout,
     tables: &[u32; TABLES],
     node: Node,
     wanted: Euro,
-    worths: &mut [u32],
-) -> Kept
-    requires { ⌜ Bounded (now words) l (now tables) node (now worths) × (wanted .0 ≤ node .bound .0) × (wanted .0 ≤ 8589934592) ⌝ }
-    ensures { λ r. ⌜ Thinned (problemOf (now (words .entry))) (now (tables .entry)) (startIn (node .starts)) (node .unit) (wanted .0) r ⌝ }
+    values: &mut [u32],
+) -> BlameLeft
+    requires { ⌜ Bounded (now words) l (now tables) node (now values) × (wanted .0 ≤ node .bound .0) × (wanted .0 ≤ MOST_WANTED) ⌝ }
+    ensures { λ r. ⌜ Shrunk (problemOf (now (words .entry))) (now (tables .entry)) (entry (node .starts)) (node .unit) (wanted .0) r ⌝ }
 {
     let starts = node.starts;
     let sum = node.bound;
     let mut i = node.unit;
-    let mut kept = Kept {
+    let mut kept = BlameLeft {
         units: sets::below(i),
         sum,
     };
     while 0 < i {
         i -= 1;
-        let next = drop_unit(words, l, tables, starts, i, wanted, kept, worths);
+        let next = drop_unit(words, l, tables, starts, i, wanted, kept, values);
         kept = next;
     }
     kept
@@ -402,7 +360,7 @@ fn thinned(
 // What a bound has to come to: the limit, all OFF costs and all prices.
 pub fn wanted(tables: &[u32; TABLES], limit: Euro) -> Euro
     requires { ⌜ limit .0 ≤ MOST_LIMIT ⌝ }
-    ensures { λ r. ⌜ (r .0 ≡ limit .0 + totalIn (now (tables .entry))) × (r .0 ≤ 8589934592) ⌝ }
+    ensures { λ r. ⌜ (r .0 ≡ limit .0 + totalIn (now (tables .entry))) × (r .0 ≤ MOST_WANTED) ⌝ }
 {
     limit.plus(tables::total(tables))
 }
@@ -411,20 +369,21 @@ pub fn wanted(tables: &[u32; TABLES], limit: Euro) -> Euro
 pub fn cost_below(tables: &[u32; TABLES], sum: Euro, limit: Euro) -> Euro
     ensures { λ r. ⌜ r .0 ≤ limit .0 ⌝ }
 {
-    smaller(sum.less(tables::total(tables)), limit)
+    let cost = sum.less(tables::total(tables));
+    cost.less(cost.less(limit))
 }
 
 // The units that are to blame, of those placed: where the bound of their starts comes to the limit, only those whose starts keep it there. What the
-// worths of the weeks are afterwards is left open.
-pub fn blamed(
+// values of the weeks are afterwards is left open (D57).
+pub fn find_blame(
     words: &[u32],
     l: Layout,
     tables: &[u32; TABLES],
     node: Node,
     limit: Euro,
-    worths: &mut [u32],
+    values: &mut [u32],
 ) -> u32
-    requires { ⌜ Bounded (now words) l (now tables) node (now worths) × (limit .0 ≤ MOST_LIMIT) ⌝ }
+    requires { ⌜ Bounded (now words) l (now tables) node (now values) × (limit .0 ≤ MOST_LIMIT) ⌝ }
     ensures { λ r. ⌜ Blamed (problemOf (now (words .entry))) (now (tables .entry)) node (limit .0) r ⌝ }
 {
     let most = wanted(tables, limit);
@@ -432,6 +391,6 @@ pub fn blamed(
     if sum.0 < most.0 {
         return sets::below(node.unit);
     }
-    let kept = thinned(words, l, tables, node, most, worths);
+    let kept = shrink_blame(words, l, tables, node, most, values);
     kept.units
 }

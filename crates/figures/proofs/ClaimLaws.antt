@@ -15,11 +15,12 @@ use Rattle.sums.specs.NumSet.{NumSet}
 use Rattle.sums.proofs.LogicLaws.{true-false, and-of, and-left, and-right, implies-at, implies-of, not-at, not-so, lt-or-ge}
 use Rattle.sums.proofs.RangeLaws.{all-at}
 use Rattle.model.specs.Problem.{Problem, Fair}
-use Rattle.model.specs.Judgement.{Judgement, soundAt, breaks, rejected}
+use Rattle.model.specs.Judgement.{Judgement, soundAt, breaks, refusedGrid}
 use Rattle.model.specs.Domain.{permitted}
 use Rattle.model.specs.Schedule.{Schedule, scheduleOf, Sound, cost}
 use Rattle.model.specs.Commitment.{Pick, nothing, picked, IsPick, cheapestRun}
 use Rattle.model.specs.Prefix.{ValidPrefix, before, rank}
+use Rattle.model.specs.Words.{VALUES}
 use Rattle.model.specs.Verdict.{Verdict, accepted, refused}
 use Rattle.model.specs.Order.{Earlier}
 use Rattle.model.specs.Best.{Region, Everywhere, Before, NoneAllowed}
@@ -203,7 +204,7 @@ module _ (p : Problem) (fair : Fair p) where
       let h = all-hold-at (nogoodTests p g) e in
       record {
         few = leb-true (length (g .choices)) 8 (h .0);
-        small = ltb-true (g .bound) 268435456 (h .1 .0);
+        small = ltb-true (g .bound) VALUES (h .1 .0);
         legal = legal-of p 0 (g .choices) (h .1 .1 .0);
         holds = conflict-of g (h .1 .1 .0) (h .1 .1 .1 .0);
       }
@@ -212,7 +213,7 @@ module _ (p : Problem) (fair : Fair p) where
   unfolding isNogood notTaken dearer
   nogood-test g h =
       let few = le-leb (length (g .choices)) 8 (h .few) in
-      let small = lt-ltb (g .bound) 268435456 (h .small) in
+      let small = lt-ltb (g .bound) VALUES (h .small) in
       all-hold-of (nogoodTests p g) (few, (small, (legal-test p 0 (g .choices) (h .legal), (every-of p (notTaken p g) kept, tt))))
     where
       kept : (s : Schedule) → Sound p s → notTaken p g s ≡ true
@@ -249,7 +250,7 @@ starts-of p fair i ss h b e s =
 pub breaks-of : (n : ℕ) (j : Judgement) → breaksRule n j ≡ true → j ≡ breaks n
 breaks-of n (soundAt c) e = true-false (sym e)
 breaks-of n (breaks m) e = ap breaks (eqb-true m n e)
-breaks-of n (rejected m q) e = true-false (sym e)
+breaks-of n (refusedGrid m q) e = true-false (sym e)
 
 pub accepted-of : (v : Verdict) → isAccepted v ≡ true → v ≡ accepted
 accepted-of accepted e = refl

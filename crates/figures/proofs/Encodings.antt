@@ -21,16 +21,16 @@ use Rattle.model.specs.Program.{inputFile, inputAsks, programVerdict, plannedBy
 use Rattle.model.specs.Lines.{printed, judgementText}
 use Rattle.figures.specs.Files.{fileA}
 use Rattle.figures.specs.Cases.{Each, askBytes, alike, bytesOf}
-use Rattle.figures.specs.Encodings.{wordRows, replyRows, loadedRows, fileEndRows, splitRows, drawnRows, drawnIntoRows, drawnA, blockRows, nogoodRows, lineRows, judgedRows, refusedFifteen, WrittenBytes, PrintedRefusal, toldRows, Encodings}
+use Rattle.figures.specs.Encodings.{wordRows, figureRows, loadedRows, fileEndRows, splitRows, drawnRows, drawnIntoRows, drawnA, blockRows, nogoodRows, lineRows, judgedRows, refusedFifteen, WrittenBytes, PrintedRefusal, toldRows, Encodings}
 use Rattle.figures.proofs.CaseLaws.{each-of}
 
 words : Each (λ b. wordsTo (b .0) (b .1)) wordRows
 unfolding wordsTo listTo
 words = each-of (λ b. wordsTo (b .0) (b .1)) wordRows refl
 
-loads : Each (λ b. loadOf (b .0) (b .1)) replyRows
+loads : Each (λ b. loadOf (b .0) (b .1)) figureRows
 unfolding loadOf
-loads = each-of (λ b. loadOf (b .0) (b .1)) replyRows refl
+loads = each-of (λ b. loadOf (b .0) (b .1)) figureRows refl
 
 loaded : Each (λ b. loadedInto (loadOf (b .0) (length (b .1))) (b .0) (b .1)) loadedRows
 unfolding loadOf loadedInto listTo

@@ -8,7 +8,7 @@ use lib.Dec.{ltb, eqb}
 use borrow.Author.Tests.{leb-true}
 use Rattle.sums.specs.Sum.{sumTo, countsOne}
 use Rattle.sums.specs.Range.{allTo, firstTo}
-use Rattle.sums.specs.NumSet.{pick}
+use Rattle.sums.specs.NumSet.{onlyIn}
 use Rattle.sums.proofs.LogicLaws.{true-false, and-of, and-left, implies-at, implies-of, not-so}
 use Rattle.sums.proofs.SumLaws.{sum-cut, sum-zero}
 use Rattle.sums.proofs.RangeLaws.{all-at, table-at, table-of, first-is}
@@ -32,24 +32,24 @@ out-in-it p x i w r h =
 
 -- so a single unit gives nothing
 one-unit : OneUnit
-unfolding ok1 output pick
+unfolding ok1 output onlyIn
 one-unit p w u d s sound =
     let x = layOut p s in
     let r = broken-none p x (sound .keeps) in
     let meets = leb-true (p .demand 0) (output p 0 (isOn x 0)) (weeks-keep p x (r .weeks) 0 (omega arith) .first) in
-    let nothing = sum-zero (p .units) (pick (isOn x 0) (p .capacity 0)) (λ i l. rw (maint-not-on x 0 i (out-in-it p x i w r l))) in
+    let nothing = sum-zero (p .units) (onlyIn (isOn x 0) (p .capacity 0)) (λ i l. rw (maint-not-on x 0 i (out-in-it p x i w r l))) in
     omega arith
 
 -- and two units want two crews
 one-crew : OneCrew
-unfolding ok7 headcount sumTo pick countsOne
+unfolding ok7 headcount sumTo onlyIn countsOne
 one-crew p w m u s sound =
     let x = layOut p s in
     let r = broken-none p x (sound .keeps) in
     let few = leb-true (headcount p (isMaint x 0)) (p .crews) (weeks-keep p x (r .weeks) 0 (omega arith) .seven) in
-    let cut = sum-cut 2 (p .units - 2) (pick (isMaint x 0) countsOne) in
+    let cut = sum-cut 2 (p .units - 2) (onlyIn (isMaint x 0) countsOne) in
     let all : 2 + (p .units - 2) ≡ p .units = omega arith in
-    let both : sumTo 2 (pick (isMaint x 0) countsOne) ≡ 2 = rw (out-in-it p x 0 w r (omega arith), out-in-it p x 1 w r (omega arith)) in
+    let both : sumTo 2 (onlyIn (isMaint x 0) countsOne) ≡ 2 = rw (out-in-it p x 0 w r (omega arith), out-in-it p x 1 w r (omega arith)) in
     let cut2 = rw all at cut in
     omega arith
 

@@ -8,7 +8,7 @@ use lib.ListN.{length, getD}
 use borrow.Author.Tests.{le-leb, lt-leb, eq-eqb}
 use Rattle.sums.specs.Sum.{sumTo, countsOne}
 use Rattle.sums.specs.Range.{allTo, allTable, someTo, firstTo, listTo}
-use Rattle.sums.specs.NumSet.{pick}
+use Rattle.sums.specs.NumSet.{onlyIn}
 use Rattle.model.specs.Grid.{isOn, isMaint, cell}
 use Rattle.model.specs.Rules.{output, headcount, broken, cost9}
 use Rattle.model.specs.Words.{_∶_, kindOf, valueOf, kindAt, valueAt, layoutFor, layoutOf, problemOf}
@@ -78,15 +78,15 @@ runs = each-of (λ r. runVerdict (r .0) (r .1) (r .2) (r .3) (r .4)) runRows ref
 -- ---- grids
 
 grids : Each (λ j. judgeOf (j .0) (j .1)) gridRows
-unfolding judgeOf readOf problemOf layoutOf kindOf valueOf kindAt valueAt sumTo countsOne allTo allTable someTo pick isOn isMaint cell output headcount broken cost9
+unfolding judgeOf readOf problemOf layoutOf kindOf valueOf kindAt valueAt sumTo countsOne allTo allTable someTo onlyIn isOn isMaint cell output headcount broken cost9
 grids = each-of (λ j. judgeOf (j .0) (j .1)) gridRows refl
 
 formulas : Each (λ j. judgeOf (j .0) (j .1)) formulaRows
-unfolding judgeOf readOf problemOf layoutOf kindOf valueOf kindAt valueAt sumTo countsOne allTo allTable someTo pick isOn isMaint cell output headcount broken cost9
+unfolding judgeOf readOf problemOf layoutOf kindOf valueOf kindAt valueAt sumTo countsOne allTo allTable someTo onlyIn isOn isMaint cell output headcount broken cost9
 formulas = each-of (λ j. judgeOf (j .0) (j .1)) formulaRows refl
 
 warm-grids : Each (λ j. judgeOf (j .0) (j .1)) warmGridRows
-unfolding judgeOf readOf problemOf layoutOf kindOf valueOf kindAt valueAt sumTo countsOne allTo allTable someTo pick isOn isMaint cell output headcount broken cost9
+unfolding judgeOf readOf problemOf layoutOf kindOf valueOf kindAt valueAt sumTo countsOne allTo allTable someTo onlyIn isOn isMaint cell output headcount broken cost9
 warm-grids = each-of (λ j. judgeOf (j .0) (j .1)) warmGridRows refl
 
 -- ---- bytes
@@ -104,7 +104,7 @@ unfolding programVerdict wordsTo listTo fileEnd someTo firstTo readOf problemOf 
 inputs = each-of programVerdict inputRows refl
 
 judged-inputs : Each judgeInput judgeRows
-unfolding judgeInput wordsTo listTo fileEnd someTo firstTo judgeOf readOf problemOf layoutOf kindOf valueOf kindAt valueAt sumTo countsOne allTo allTable pick isOn isMaint cell output headcount broken cost9
+unfolding judgeInput wordsTo listTo fileEnd someTo firstTo judgeOf readOf problemOf layoutOf kindOf valueOf kindAt valueAt sumTo countsOne allTo allTable onlyIn isOn isMaint cell output headcount broken cost9
 judged-inputs = each-of judgeInput judgeRows refl
 
 long-input : LongInput

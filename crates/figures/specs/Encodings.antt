@@ -6,14 +6,14 @@ use mathlib.Core.Path.{_≡_}
 use mathlib.Core.List.{List, [], _∷_, _++_}
 use lib.ListN.{length, take}
 use Rattle.model.specs.Words.{_∶_, problemOf}
-use Rattle.model.specs.Verdict.{Verdict, accepted, refused, Reply, gives, denies}
+use Rattle.model.specs.Verdict.{Verdict, accepted, refused, Figure, gives, refusedFigure}
 use Rattle.model.specs.Bytes.{wordsTo, loadOf, loadedInto, fileEnd}
 use Rattle.model.specs.Schedule.{Schedule, scheduleOf}
 use Rattle.model.specs.Drawing.{drawn, drawVerdict, drawnInto}
 use Rattle.model.specs.Nogood.{Nogood, nogoodsWords}
 use Rattle.model.specs.Answer.{Answer, optimal, infeasible, incumbent, unknown, blocksOf}
-use Rattle.model.specs.Program.{inputFile, inputAsks, Planned, denied, planned, plannedBy}
-use Rattle.model.specs.Judgement.{Judgement, soundAt, breaks, rejected}
+use Rattle.model.specs.Program.{inputFile, inputAsks, Planned, refusedPlan, planned, plannedBy}
+use Rattle.model.specs.Judgement.{Judgement, soundAt, breaks, refusedGrid}
 use Rattle.model.specs.Lines.{printed, judgementText, Written, PlanPrinted}
 use Rattle.figures.specs.Files.{fileA, fileLong}
 use Rattle.figures.specs.Cases.{Case, _⟶_, Each, bytesA, askPair, askBytes, alike, bytesOf}
@@ -30,13 +30,13 @@ wordRows =
     ∷ []
 
 -- a call that reads bytes into so many words: how many words, or the refusal
-abbrev pub replyRows : List (Case (List ℕ × ℕ) Reply)
-replyRows =
+abbrev pub figureRows : List (Case (List ℕ × ℕ) Figure)
+figureRows =
     ([], 0) ⟶ gives 0
     ∷ (1 ∷ 2 ∷ 3 ∷ 4 ∷ 5 ∷ 6 ∷ 7 ∷ 8 ∷ [], 2) ⟶ gives 2
     ∷ (1 ∷ 2 ∷ 3 ∷ 4 ∷ 5 ∷ 6 ∷ 7 ∷ 8 ∷ [], 3) ⟶ gives 2
-    ∷ (1 ∷ 2 ∷ 3 ∷ 4 ∷ 5 ∷ 6 ∷ 7 ∷ 8 ∷ [], 1) ⟶ denies 17 0
-    ∷ (1 ∷ 2 ∷ 3 ∷ 4 ∷ 5 ∷ 6 ∷ 7 ∷ [], 0) ⟶ denies 16 0
+    ∷ (1 ∷ 2 ∷ 3 ∷ 4 ∷ 5 ∷ 6 ∷ 7 ∷ 8 ∷ [], 1) ⟶ refusedFigure 17 0
+    ∷ (1 ∷ 2 ∷ 3 ∷ 4 ∷ 5 ∷ 6 ∷ 7 ∷ [], 0) ⟶ refusedFigure 16 0
     ∷ []
 
 -- bytes, the lent words before, and afterwards: words beyond stay; all stay under 17 and 16
@@ -132,8 +132,8 @@ lineRows =
     ⟶ (97 ∷ 115 ∷ 107 ∷ 32 ∷ 49 ∷ 32 ∷ 110 ∷ 111 ∷ 110 ∷ 101 ∷ 10 ∷ 97 ∷ 115 ∷ 107 ∷ 32 ∷ 50 ∷ 32 ∷ 112 ∷ 108 ∷ 97 ∷ 110 ∷ 32 ∷ 50 ∷ 48 ∷ 56 ∷ 55
     ∷ 48 ∷ 32 ∷ 115 ∷ 116 ∷ 97 ∷ 114 ∷ 116 ∷ 115 ∷ 32 ∷ 49 ∷ 48 ∷ 32 ∷ 114 ∷ 117 ∷ 110 ∷ 32 ∷ 49 ∷ 48 ∷ 48 ∷ 53 ∷ 10 ∷ [])
     -- "refused 2 57" and "refused 17 0", whatever the answers' words are
-    ∷ (denied 2 57, []) ⟶ (114 ∷ 101 ∷ 102 ∷ 117 ∷ 115 ∷ 101 ∷ 100 ∷ 32 ∷ 50 ∷ 32 ∷ 53 ∷ 55 ∷ 10 ∷ [])
-    ∷ (denied 17 0, 1 ∷ 19 ∷ []) ⟶ (114 ∷ 101 ∷ 102 ∷ 117 ∷ 115 ∷ 101 ∷ 100 ∷ 32 ∷ 49 ∷ 55 ∷ 32 ∷ 48 ∷ 10 ∷ [])
+    ∷ (refusedPlan 2 57, []) ⟶ (114 ∷ 101 ∷ 102 ∷ 117 ∷ 115 ∷ 101 ∷ 100 ∷ 32 ∷ 50 ∷ 32 ∷ 53 ∷ 55 ∷ 10 ∷ [])
+    ∷ (refusedPlan 17 0, 1 ∷ 19 ∷ []) ⟶ (114 ∷ 101 ∷ 102 ∷ 117 ∷ 115 ∷ 101 ∷ 100 ∷ 32 ∷ 49 ∷ 55 ∷ 32 ∷ 48 ∷ 10 ∷ [])
     ∷ []
 
 -- the judge's: "sound 19", "rule 6", "refused 12 5"
@@ -141,7 +141,7 @@ abbrev pub judgedRows : List (Case Judgement (List ℕ))
 judgedRows =
     soundAt 19 ⟶ (115 ∷ 111 ∷ 117 ∷ 110 ∷ 100 ∷ 32 ∷ 49 ∷ 57 ∷ 10 ∷ [])
     ∷ breaks 6 ⟶ (114 ∷ 117 ∷ 108 ∷ 101 ∷ 32 ∷ 54 ∷ 10 ∷ [])
-    ∷ rejected 12 5 ⟶ (114 ∷ 101 ∷ 102 ∷ 117 ∷ 115 ∷ 101 ∷ 100 ∷ 32 ∷ 49 ∷ 50 ∷ 32 ∷ 53 ∷ 10 ∷ [])
+    ∷ refusedGrid 12 5 ⟶ (114 ∷ 101 ∷ 102 ∷ 117 ∷ 115 ∷ 101 ∷ 100 ∷ 32 ∷ 49 ∷ 50 ∷ 32 ∷ 53 ∷ 10 ∷ [])
     ∷ []
 
 -- "refused 15 0"
@@ -166,7 +166,7 @@ PrintedRefusal = (rest : List ℕ)
 abbrev pub toldRows : List (Case Verdict Planned)
 toldRows =
     accepted ⟶ planned 2 2 3
-    ∷ refused 2 57 ⟶ denied 2 57
+    ∷ refused 2 57 ⟶ refusedPlan 2 57
     ∷ []
 
 -- ---- the statement
@@ -175,7 +175,7 @@ toldRows =
 abbrev pub Encodings : Type 0
 Encodings =
     Each (λ b. wordsTo (b .0) (b .1)) wordRows
-    × Each (λ b. loadOf (b .0) (b .1)) replyRows
+    × Each (λ b. loadOf (b .0) (b .1)) figureRows
     × Each (λ b. loadedInto (loadOf (b .0) (length (b .1))) (b .0) (b .1)) loadedRows
     × Each fileEnd fileEndRows
     × Each (λ bs. (inputFile bs, inputAsks bs)) splitRows

@@ -6,14 +6,14 @@ use mathlib.Core.Path.{_≡_}
 use mathlib.Core.List.{List, [], _∷_, _++_, flatten}
 use lib.ListN.{length, take, drop, set, replicate}
 use Rattle.model.specs.Words.{_∶_, layoutFor, problemOf}
-use Rattle.model.specs.Verdict.{Verdict, accepted, refused, Reply, gives, denies, andThen}
+use Rattle.model.specs.Verdict.{Verdict, accepted, refused, Figure, gives, refusedFigure, andThen}
 use Rattle.model.specs.Bytes.{bytesVerdict, fileEnd}
 use Rattle.model.specs.Reading.{pairFault, readOf}
 use Rattle.model.specs.Refusal.{asksVerdict, memoryVerdict, runVerdict}
 use Rattle.model.specs.Prefix.{spaceBound}
 use Rattle.model.specs.Sizing.{sizingOf}
 use Rattle.model.specs.Drawing.{drawVerdict}
-use Rattle.model.specs.Judgement.{Judgement, soundAt, breaks, rejected, judgeOf, judgeBytes, judgeInput}
+use Rattle.model.specs.Judgement.{Judgement, soundAt, breaks, refusedGrid, judgeOf, judgeBytes, judgeInput}
 use Rattle.model.specs.Asks.{Ran}
 use Rattle.model.specs.Program.{inputFile, inputAsks, unitsVerdict, programVerdict}
 use Rattle.figures.specs.Files.{fileA, fileOne, fileGap, fileWarm}
@@ -294,17 +294,17 @@ abbrev pub gridRows : List (Case (List ℕ × List ℕ) Judgement)
 gridRows =
     (fileA, 1 ∷ 2 ∷ 2 ∷ 1 ∷ 1 ∷ 0 ∷ []) ⟶ soundAt 19
     -- 11: a byte short, a byte too many
-    ∷ (fileA, 1 ∷ 2 ∷ 2 ∷ 1 ∷ 1 ∷ []) ⟶ rejected 11 0
-    ∷ (fileA, 1 ∷ 2 ∷ 2 ∷ 1 ∷ 1 ∷ 0 ∷ 0 ∷ []) ⟶ rejected 11 0
+    ∷ (fileA, 1 ∷ 2 ∷ 2 ∷ 1 ∷ 1 ∷ []) ⟶ refusedGrid 11 0
+    ∷ (fileA, 1 ∷ 2 ∷ 2 ∷ 1 ∷ 1 ∷ 0 ∷ 0 ∷ []) ⟶ refusedGrid 11 0
     -- 12: the place of the cell, of the first of two
-    ∷ (fileA, 1 ∷ 2 ∷ 2 ∷ 1 ∷ 1 ∷ 3 ∷ []) ⟶ rejected 12 5
-    ∷ (fileA, 1 ∷ 3 ∷ 2 ∷ 1 ∷ 255 ∷ 0 ∷ []) ⟶ rejected 12 1
+    ∷ (fileA, 1 ∷ 2 ∷ 2 ∷ 1 ∷ 1 ∷ 3 ∷ []) ⟶ refusedGrid 12 5
+    ∷ (fileA, 1 ∷ 3 ∷ 2 ∷ 1 ∷ 255 ∷ 0 ∷ []) ⟶ refusedGrid 12 1
     -- 11 and 12; 12 and a formula
-    ∷ (fileA, 3 ∷ 2 ∷ 2 ∷ 1 ∷ 1 ∷ []) ⟶ rejected 11 0
-    ∷ (fileA, 0 ∷ 0 ∷ 0 ∷ 0 ∷ 0 ∷ 3 ∷ []) ⟶ rejected 12 5
+    ∷ (fileA, 3 ∷ 2 ∷ 2 ∷ 1 ∷ 1 ∷ []) ⟶ refusedGrid 11 0
+    ∷ (fileA, 0 ∷ 0 ∷ 0 ∷ 0 ∷ 0 ∷ 3 ∷ []) ⟶ refusedGrid 12 5
     -- the file before the grid
-    ∷ (take 24 fileA, []) ⟶ rejected 1 24
-    ∷ (endA (15 ∶ 23 ∷ []), 1 ∷ 2 ∷ 2 ∷ 1 ∷ 1 ∷ 3 ∷ []) ⟶ rejected 6 24
+    ∷ (take 24 fileA, []) ⟶ refusedGrid 1 24
+    ∷ (endA (15 ∶ 23 ∷ []), 1 ∷ 2 ∷ 2 ∷ 1 ∷ 1 ∷ 3 ∷ []) ⟶ refusedGrid 6 24
     ∷ []
 
 -- each formula broken, and the smallest where it is not alone
@@ -399,17 +399,17 @@ abbrev pub judgeRows : List (Case (List ℕ) Judgement)
 judgeRows =
     (bytesA ++ (1 ∷ 2 ∷ 2 ∷ 1 ∷ 1 ∷ 0 ∷ [])) ⟶ soundAt 19
     ∷ (bytesA ++ (1 ∷ 1 ∷ 1 ∷ 1 ∷ 1 ∷ 1 ∷ [])) ⟶ breaks 6
-    ∷ bytesA ⟶ rejected 11 0
-    ∷ (bytesA ++ (1 ∷ 2 ∷ 2 ∷ 1 ∷ 3 ∷ 0 ∷ [])) ⟶ rejected 12 4
+    ∷ bytesA ⟶ refusedGrid 11 0
+    ∷ (bytesA ++ (1 ∷ 2 ∷ 2 ∷ 1 ∷ 3 ∷ 0 ∷ [])) ⟶ refusedGrid 12 4
     -- 16 where the file has no end word, though a whole word of it is wrong too
-    ∷ take 99 bytesA ⟶ rejected 16 0
-    ∷ (0 ∷ 0 ∷ 0 ∷ 0 ∷ 0 ∷ []) ⟶ rejected 16 0
-    ∷ take 96 bytesA ⟶ rejected 1 24
+    ∷ take 99 bytesA ⟶ refusedGrid 16 0
+    ∷ (0 ∷ 0 ∷ 0 ∷ 0 ∷ 0 ∷ []) ⟶ refusedGrid 16 0
+    ∷ take 96 bytesA ⟶ refusedGrid 1 24
     ∷ []
 
 -- an input of more than 32,768 bytes is 17 whatever the bytes, also where their number would be 16
 abbrev pub LongInput : Type 0
-LongInput = (bs : List ℕ) → 32768 < length bs → (programVerdict bs ≡ refused 17 0) × (judgeInput bs ≡ rejected 17 0)
+LongInput = (bs : List ℕ) → 32768 < length bs → (programVerdict bs ≡ refused 17 0) × (judgeInput bs ≡ refusedGrid 17 0)
 
 -- 32,768 are read, and tested as a file and what follows it
 abbrev pub ReadInput : Type 0
@@ -430,10 +430,10 @@ sizeRows =
     ∷ []
 
 -- the figure of an accepted file, or the file's refusal
-abbrev pub sizingRows : List (Case (List ℕ) Reply)
+abbrev pub sizingRows : List (Case (List ℕ) Figure)
 sizingRows =
     fileA ⟶ gives 12
-    ∷ set fileA 10 (6 ∶ 129) ⟶ denies 3 10
+    ∷ set fileA 10 (6 ∶ 129) ⟶ refusedFigure 3 10
     ∷ []
 
 -- ---- a refused run: every lent word as it was, and no other verdict

@@ -8,16 +8,16 @@ use lib.Dec.{ltb, leb, eqb}
 use Rattle.sums.specs.Logic.{if, implies}
 use Rattle.sums.specs.Sum.{sumTo, countsOne}
 use Rattle.sums.specs.Range.{allTo, allTable, someTo, listTo, countTo, allLists, countLists}
-use Rattle.sums.specs.NumSet.{pick, parts, away, has}
+use Rattle.sums.specs.NumSet.{onlyIn, parts, complement, has}
 use Rattle.model.specs.Problem.{Problem}
 use Rattle.model.specs.Grid.{isOn, isMaint, cell}
 use Rattle.model.specs.Rules.{output, headcount, keeps1, broken, cost9}
-use Rattle.model.specs.Judgement.{Judgement, soundAt, breaks, rejected, judgeOf}
+use Rattle.model.specs.Judgement.{Judgement, soundAt, breaks, refusedGrid, judgeOf}
 use Rattle.model.specs.Domain.{permitted}
 use Rattle.model.specs.Schedule.{Schedule, scheduleOf, inSpan, outIn, layOut, cost}
 use Rattle.model.specs.Commitment.{runCost, freeAt, runBefore, serves, Pick, nothing, picked, cheapestRun, leastCost, fullCost, fullLeast, offCost}
 use Rattle.model.specs.Prefix.{startsFrom, before, startsOf, prefixes, rank, spaceBound}
-use Rattle.model.specs.Words.{kindOf, valueOf, kindAt, valueAt, layoutOf, problemOf}
+use Rattle.model.specs.Words.{VALUES, kindOf, valueOf, kindAt, valueAt, layoutOf, problemOf}
 use Rattle.model.specs.Verdict.{Verdict, accepted, refused}
 use Rattle.model.specs.Reading.{readOf}
 use Rattle.model.specs.Refusal.{asksVerdict, blockSize}
@@ -175,7 +175,7 @@ isLegal p u (c ∷ cs) = every (choiceTests p u c) && isLegal p (c .unit + 1) cs
 
 -- `IsNogood`
 abbrev pub nogoodTests : Problem → Nogood → List Bool
-nogoodTests p g = leb (length (g .choices)) 8 ∷ ltb (g .bound) 268435456 ∷ isLegal p 0 (g .choices) ∷ everySound p (notTaken p g) ∷ []
+nogoodTests p g = leb (length (g .choices)) 8 ∷ ltb (g .bound) VALUES ∷ isLegal p 0 (g .choices) ∷ everySound p (notTaken p g) ∷ []
 
 unfoldable pub isNogood : Problem → Nogood → Bool
 unfolding every everySound notTaken isLegal
@@ -302,7 +302,7 @@ startIs p i ss s = Bool·beq (permitted p i s) (member s ss)
 abbrev pub breaksRule : ℕ → Judgement → Bool
 breaksRule n (soundAt c) = false
 breaksRule n (breaks m) = eqb m n
-breaksRule n (rejected m q) = false
+breaksRule n (refusedGrid m q) = false
 
 -- the same run, or none both times
 unfoldable pub samePick : Pick → Pick → Bool
@@ -385,5 +385,5 @@ tests (r ∷ rs) = rowTest r && tests rs
 
 -- the same test with all its definitions opened, as antt computes it
 unfoldable pub computes : List Row → Bool
-unfolding tests sumTo countsOne allTo allTable someTo listTo countTo allLists countLists pick parts away has flatten isOn isMaint cell output headcount keeps1 broken cost9 judgeOf permitted inSpan outIn layOut cost freeAt runBefore serves runCost cheapestRun leastCost fullCost fullLeast offCost startsFrom before startsOf prefixes rank spaceBound kindOf valueOf kindAt valueAt layoutOf problemOf readOf asksVerdict blockSize nogoodWords nogoodsWords boundsAlone zeros blocksOf askCount ceilingAt budgetAt answerAt concludes settled leftAt
+unfolding tests sumTo countsOne allTo allTable someTo listTo countTo allLists countLists onlyIn parts complement has flatten isOn isMaint cell output headcount keeps1 broken cost9 judgeOf permitted inSpan outIn layOut cost freeAt runBefore serves runCost cheapestRun leastCost fullCost fullLeast offCost startsFrom before startsOf prefixes rank spaceBound kindOf valueOf kindAt valueAt layoutOf problemOf readOf asksVerdict blockSize nogoodWords nogoodsWords boundsAlone zeros blocksOf askCount ceilingAt budgetAt answerAt concludes settled leftAt
 computes rs = tests rs

@@ -53,14 +53,6 @@ module _ (ws : List ℕ) (e : readOf ws ≡ accepted) where
 pub filed : (ws : List ℕ) (l : Layout) → readOf ws ≡ accepted → l ≡ layoutOf ws → Filed ws l
 filed ws l e laid = subst⁻¹ (Filed ws) laid (filed-laid ws e)
 
--- the problem has as many weeks as the layout
-pub weeks-are : (ws : List ℕ) (l : Layout) → Filed ws l → problemOf ws .weeks ≡ l .weeks
-weeks-are ws l f = f .weeks-are
-
--- and as many units
-pub units-are : (ws : List ℕ) (l : Layout) → Filed ws l → problemOf ws .units ≡ l .units
-units-are ws l f = f .units-are
-
 -- so a grid has as many cells
 pub cells-are : (ws : List ℕ) (l : Layout) → Filed ws l → problemOf ws .weeks * problemOf ws .units ≡ l .weeks * l .units
 cells-are ws l f = ap₂ (λ (w u : ℕ). w * u) (f .weeks-are) (f .units-are)

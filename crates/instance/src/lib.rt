@@ -5,7 +5,7 @@ ghost use mathlib.Core.Path.{_≡_};
 ghost use mathlib.Core.Bool.{_||_};
 ghost use Prim.Native.Nat.{ℕ, _+_, _-_, _*_, _<_, _≤_, _^_};
 ghost use lib.ListN.{length};
-ghost use Rattle.sums.specs.NumSet.{has, pick};
+ghost use Rattle.sums.specs.NumSet.{has, onlyIn};
 ghost use Rattle.model.specs.Words.{VALUES, kindAt, valueAt, layoutFor, offWords, layoutOf, problemOf};
 ghost use Rattle.model.specs.Rules.{output};
 ghost use Rattle.model.specs.Commitment.{offCost};
@@ -206,7 +206,7 @@ pub fn running_cost(words: &[u32], l: Layout, t: usize, i: usize) -> Euro
     Euro(words::value_of(words[q]) as u64)
 }
 
-// What keeping unit i warm costs where it is OFF in week t: 0 where the file has no OFF costs.
+// What keeping unit i warm costs where it is OFF in week t: 0 where the file has no OFF costs (D89).
 pub fn off_cost(words: &[u32], l: Layout, t: usize, i: usize) -> Euro
     requires { ⌜ Filed (now words) l ⌝ }
     requires { ⌜ (t < l .weeks) × (i < l .units) ⌝ }
@@ -223,7 +223,7 @@ pub fn off_cost(words: &[u32], l: Layout, t: usize, i: usize) -> Euro
 fn output_part(words: &[u32], l: Layout, t: usize, run: u32, i: usize) -> Kilo
     requires { ⌜ Filed (now words) l ⌝ }
     requires { ⌜ i < l .units ⌝ }
-    ensures { λ r. ⌜ (r .0 ≡ pick (has run) (problemOf (now (words .entry)) .capacity t) i) × (r .0 ≤ 1000000) ⌝ }
+    ensures { λ r. ⌜ (r .0 ≡ onlyIn (has run) (problemOf (now (words .entry)) .capacity t) i) × (r .0 ≤ 1000000) ⌝ }
 {
     if sets::has(run, i) {
         return capacity(words, l, t, i);
@@ -249,7 +249,7 @@ pub fn run_output(words: &[u32], l: Layout, t: usize, run: u32) -> Kilo
 fn off_part(words: &[u32], l: Layout, t: usize, out: u32, i: usize) -> Euro
     requires { ⌜ Filed (now words) l ⌝ }
     requires { ⌜ (t < l .weeks) × (i < l .units) ⌝ }
-    ensures { λ r. ⌜ (r .0 ≡ pick (has out) (problemOf (now (words .entry)) .off t) i) × (r .0 ≤ 250000) ⌝ }
+    ensures { λ r. ⌜ (r .0 ≡ onlyIn (has out) (problemOf (now (words .entry)) .off t) i) × (r .0 ≤ 250000) ⌝ }
 {
     if sets::has(out, i) {
         return off_cost(words, l, t, i);
@@ -365,7 +365,7 @@ fn partner_added(words: &[u32], l: Layout, i: usize, n: usize, found: u32) -> u3
     found
 }
 
-// The units that form an excluded pair with unit i, as a set.
+// The units that form an excluded pair with unit i, as a set (D37).
 pub fn partners(words: &[u32], l: Layout, i: usize) -> u32
     requires { ⌜ Filed (now words) l ⌝ }
     ensures { λ r. ⌜ ((j : ℕ) → has r j ≡ apart (problemOf (now (words .entry))) i j) ⌝ }

@@ -12,16 +12,16 @@ use Rattle.model.specs.Verdict.{accepted, refused, andThen}
 use Rattle.model.specs.Bytes.{wordsTo, loadOf, loadedInto, fileEnd}
 use Rattle.model.specs.Refusal.{runVerdict}
 use Rattle.model.specs.Asks.{askCount, Outcome, Ran}
-use Rattle.model.specs.Program.{inputWords, inputFile, inputAsks, Planned, denied, planned, plannedBy}
+use Rattle.model.specs.Program.{inputWords, inputFile, inputAsks, Planned, refusedPlan, planned, plannedBy}
 use Rattle.decoder.specs.declared.Verdict.{Verdict}
 use Rattle.decoder.specs.declared.Verdict.the-variants.{Accepted, Refused}
-use Rattle.decoder.specs.declared.Reply.{Reply}
-use Rattle.decoder.specs.declared.Reply.the-variants.{Number}
-use Rattle.decoder.specs.declared.Reply.the-variants as reply
-use Rattle.decoder.specs.Answers.{verdictOf, replyOf}
+use Rattle.decoder.specs.declared.Figure.{Figure}
+use Rattle.decoder.specs.declared.Figure.the-variants.{Number}
+use Rattle.decoder.specs.declared.Figure.the-variants as reply
+use Rattle.decoder.specs.Answers.{verdictOf, figureOf}
 use Rattle.input.proofs.LoadedLaws.{load-refused, load-accepted, load-front}
 use Rattle.asks.proofs.VerdictLaws.{run-admitted}
-use Rattle.intake.specs.declared.Planned.the-variants.{Denied, Answered}
+use Rattle.intake.specs.declared.Planned.the-variants.{Refused as RefusedPlan, Answered}
 use Rattle.intake.specs.Answers.{RanFile, Sized}
 use Rattle.intake.specs.Buffers.{inputVerdict, RanInput}
 
@@ -36,9 +36,9 @@ module _ (file asks a₀ t₀ s₀ a t s : List ℕ) (v : Verdict) (ran : Ran (v
   came = subst (λ (x : model.Verdict). Outcome x file asks a₀ t₀ s₀ a t s) (ran .told) (ran .outcome)
 
   -- turned away
-  pub ran-denied : (number place : ℕ) → v ≡ Refused number place → RanFile (denied number place) file asks a₀ t₀ s₀ a t s
+  pub ran-refused : (number place : ℕ) → v ≡ Refused number place → RanFile (refusedPlan number place) file asks a₀ t₀ s₀ a t s
   unfolding due plannedBy
-  ran-denied number place e =
+  ran-refused number place e =
       let q : refused number place ≡ due = rw e at (ran .told) in
       record { is = ap (λ (x : model.Verdict). plannedBy x (problemOf file) (askCount asks)) q; outcome = came }
 
@@ -62,8 +62,8 @@ module _ (file asks a₀ t₀ s₀ a t s : List ℕ) (v : Verdict) (ran : Ran (v
       record { by = record { units = ok .filed .units-most; weeks = ok .filed .weeks-most; few = ok .few; within = ok .room } }
 
 -- nothing has to stand anywhere where the input is turned away
-pub denied-sized : (words number place : ℕ) → Sized words (Denied number place)
-denied-sized words number place = record { by = tt }
+pub refused-sized : (words number place : ℕ) → Sized words (RefusedPlan number place)
+refused-sized words number place = record { by = tt }
 
 -- the same of other names for the file and the asks
 pub ran-split : (told : Planned) (file asks file′ asks′ a₀ t₀ s₀ a t s : List ℕ) → file ≡ file′ → asks ≡ asks′ → RanFile told file asks a₀ t₀ s₀ a t s
@@ -83,20 +83,20 @@ by-verdict bs a₀ t₀ s₀ a t s v told e is came = record {
 
 module _ (bs a₀ t₀ s₀ : List ℕ) where
   -- too long
-  pub input-long : 32768 < length bs → RanInput (denied 17 0) bs a₀ t₀ s₀ a₀ t₀ s₀
+  pub input-long : 32768 < length bs → RanInput (refusedPlan 17 0) bs a₀ t₀ s₀ a₀ t₀ s₀
   unfolding inputVerdict plannedBy
-  input-long h = by-verdict bs a₀ t₀ s₀ a₀ t₀ s₀ (refused 17 0) (denied 17 0) (rw (lt-leb (length bs) 32768 h)) refl (refl, refl, refl)
+  input-long h = by-verdict bs a₀ t₀ s₀ a₀ t₀ s₀ (refused 17 0) (refusedPlan 17 0) (rw (lt-leb (length bs) 32768 h)) refl (refl, refl, refl)
 
-  module _ (short : length bs ≤ 32768) (r : Reply) (said : replyOf r ≡ loadOf bs 8192) where
+  module _ (short : length bs ≤ 32768) (r : Figure) (said : figureOf r ≡ loadOf bs 8192) where
     -- no words
-    pub input-denied : (number place : ℕ) → r ≡ reply.Denied number place → RanInput (denied number place) bs a₀ t₀ s₀ a₀ t₀ s₀
+    pub input-refused : (number place : ℕ) → r ≡ reply.Refused number place → RanInput (refusedPlan number place) bs a₀ t₀ s₀ a₀ t₀ s₀
     unfolding inputVerdict plannedBy andThen
-    input-denied number place is =
-        by-verdict bs a₀ t₀ s₀ a₀ t₀ s₀ (refused number place) (denied number place)
+    input-refused number place is =
+        by-verdict bs a₀ t₀ s₀ a₀ t₀ s₀ (refused number place) (refusedPlan number place)
         (rw (le-leb (length bs) 32768 short, load-refused bs 8192 r said number place is)) refl (refl, refl, refl)
 
     -- a run
-    pub input-ran : (n : ℕ) → r ≡ Number n → (words ws front : List ℕ) → ws ≡ loadedInto (replyOf r) bs words → front ≡ take n ws
+    pub input-ran : (n : ℕ) → r ≡ Number n → (words ws front : List ℕ) → ws ≡ loadedInto (figureOf r) bs words → front ≡ take n ws
         → (end : ℕ) → end ≡ fileEnd bs → (told : Planned) (a t s : List ℕ)
         → RanFile told (take (end / 4) front) (drop (end / 4) front) a₀ t₀ s₀ a t s → RanInput told bs a₀ t₀ s₀ a t s
     unfolding inputVerdict andThen inputFile inputAsks inputWords

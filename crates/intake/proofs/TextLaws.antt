@@ -5,26 +5,26 @@ use mathlib.Core.Path.{_≡_, subst}
 use mathlib.Core.List.{List}
 use native.Mathlib.Omega.{arith}
 use lib.ListN.{length}
-use Rattle.model.specs.Program.{denied, planned}
+use Rattle.model.specs.Program.{refusedPlan, planned}
 use Rattle.model.specs.Lines.{linesText, refusalText, printed}
 use Rattle.report.specs.Lengths.{LINE, TEXT}
 use Rattle.report.specs.Put.{Put, Listed}
 use Rattle.report.proofs.PutLaws.{put-written}
 use Rattle.intake.specs.declared.Planned.{Planned}
-use Rattle.intake.specs.declared.Planned.the-variants.{Denied, Answered}
+use Rattle.intake.specs.declared.Planned.the-variants.{Refused as RefusedPlan, Answered}
 use Rattle.intake.specs.Answers.{plannedOf, SizedBy, Sized}
 use Rattle.intake.specs.Buffers.{RanInput, ShownInput}
 
 module _ (bs a₀ t₀ s₀ a t s d text : List ℕ) (r : ℕ) (room : TEXT ≤ length d) (same : length text ≡ length d)
     (told : Planned) (ran : RanInput (plannedOf told) bs a₀ t₀ s₀ a t s) where
   -- a refusal's line
-  pub text-denied : (number place : ℕ) → told ≡ Denied number place → Put d text 0 r 50 (refusalText number place)
+  pub text-refused : (number place : ℕ) → told ≡ RefusedPlan number place → Put d text 0 r 50 (refusalText number place)
       → ShownInput bs a₀ t₀ s₀ a t s d text r
   unfolding printed
-  text-denied number place e h =
+  text-refused number place e h =
       let fits : 50 ≤ length d = omega arith in
       record {
-        told = denied number place;
+        told = refusedPlan number place;
         ran = subst (λ (x : Planned). RanInput (plannedOf x) bs a₀ t₀ s₀ a t s) e ran;
         shown = put-written d text r 50 (refusalText number place) h fits same;
       }

@@ -11,11 +11,11 @@ use Rattle.model.specs.Program as model
 use Rattle.model.specs.Program.{plannedBy}
 use Rattle.report.specs.Put.{Listed}
 use Rattle.intake.specs.declared.Planned.{Planned}
-use Rattle.intake.specs.declared.Planned.the-variants.{Denied, Answered}
+use Rattle.intake.specs.declared.Planned.the-variants.{Refused as RefusedPlan, Answered}
 
 -- a refusal's number and place, or the numbers of asks, units and weeks
 abbrev pub plannedOf : Planned → model.Planned
-plannedOf (Denied number place) = model.denied number place
+plannedOf (RefusedPlan number place) = model.refusedPlan number place
 plannedOf (Answered asks units weeks) = model.planned asks units weeks
 
 -- a run on a file and asks
@@ -25,7 +25,7 @@ pub record RanFile (told : model.Planned) (file asks answers₀ table₀ scratch
 
 -- the blocks of an answered input stand in so many words of answers
 abbrev pub SizedBy : ℕ → Planned → Type 0
-SizedBy words (Denied number place) = Unit {0}
+SizedBy words (RefusedPlan number place) = Unit {0}
 SizedBy words (Answered asks units weeks) = Listed words asks units weeks
 
 pub record Sized (words : ℕ) (told : Planned) : Type 0 where

@@ -1,6 +1,6 @@
 // The planning program's input as a run: a file's bytes up to and with its end word, then the bytes of its asks; and the text that is printed for it.
 // All that the program decides is decided here.
-use decoder::Reply;
+use decoder::Figure;
 use decoder::Verdict;
 ghost use Prim.Native.Nat.{_≤_};
 ghost use lib.ListN.{length, take, drop};
@@ -11,7 +11,7 @@ ghost use Rattle.intake.specs.Buffers.{RanInput, ShownInput};
 
 // The input is turned away under a number at a place; or so many asks are answered, in blocks of so many units and weeks.
 enum Planned {
-    Denied(u32, usize),
+    Refused(u32, usize),
     Answered(usize, usize, usize),
 }
 
@@ -29,7 +29,7 @@ fn plan_words(
 {
     let v = planner::run(file, asks, answers, table, scratch);
     match v {
-        Verdict::Refused(number, place) => Planned::Denied(number, place),
+        Verdict::Refused(number, place) => Planned::Refused(number, place),
         Verdict::Accepted => {
             let l = instance::layout_of(file);
             Planned::Answered(asks.len() / 2, l.units, l.weeks)
@@ -65,14 +65,14 @@ fn plan_input(bytes: &[u8], answers: &mut [u32], table: &mut [u32], scratch: &mu
     ensures { λ r. ⌜ Sized (length (now (answers .entry))) r ⌝ }
 {
     if 32768 < bytes.len() {
-        return Planned::Denied(17, 0);
+        return Planned::Refused(17, 0);
     }
     let end = input::file_end(bytes);
     let mut words = [0u32; 8192];
     let loaded = decoder::load(bytes, &mut words);
     match loaded {
-        Reply::Denied(number, place) => Planned::Denied(number, place),
-        Reply::Number(n) => plan_split(input::front(&words, n), end / 4, answers, table, scratch),
+        Figure::Refused(number, place) => Planned::Refused(number, place),
+        Figure::Number(n) => plan_split(input::front(&words, n), end / 4, answers, table, scratch),
     }
 }
 
@@ -90,15 +90,15 @@ fn plan_text(
 {
     let planned = plan_input(bytes, answers, table, scratch);
     match planned {
-        Planned::Denied(number, place) => report::refusal(text, number, place),
+        Planned::Refused(number, place) => report::put_refusal(text, number, place),
         Planned::Answered(asks, units, weeks) => {
-            report::lines(text, &answers[..], asks, units, weeks)
+            report::put_lines(text, &answers[..], asks, units, weeks)
         }
     }
 }
 
 // The text that the program prints for its input: how many of the lent bytes it has; any beyond are kept. Answers hold the largest blocks of 32 asks;
-// scratch serves up to 14 units.
+// scratch serves up to 14 units (D70, D71).
 pub fn plan_output(bytes: &[u8], text: &mut [u8]) -> usize
     requires { ⌜ TEXT ≤ length (now text) ⌝ }
     ensures { λ r. ⌜ PlanPrinted (now (bytes .entry)) (now (text .entry)) (now (text .exit)) r ⌝ }

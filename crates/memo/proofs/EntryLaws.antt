@@ -1,4 +1,4 @@
--- The memory's entries: emptied, found and written; and what of them is still right after a write.
+-- The memo's entries: emptied, found and written; and what of them is still right after a write.
 -- Assumes nothing.
 use Prim.Native.Nat.{ℕ, _+_, _*_, _/_, _≤_, _<_}
 use mathlib.Core.Path.{_≡_, refl, sym, ap, _∙_, subst}
@@ -17,11 +17,11 @@ use Rattle.model.specs.Commitment.{fullLeast, NO_RUN}
 use Rattle.sets.specs.Sets.{SETS}
 use Rattle.instance.specs.Filed.{Filed}
 use Rattle.commitment.proofs.ScoreLaws.{least-small}
-use Rattle.memo.specs.declared.Kept.{Kept}
-use Rattle.memo.specs.declared.Kept.the-variants.{Word}
+use Rattle.memo.specs.declared.Stored.{Stored}
+use Rattle.memo.specs.declared.Stored.the-variants.{Word}
 use Rattle.memo.specs.Memo.{Entry, Present, Looked, Wrote, OTHERS, Others, keyOf, Right}
 
--- ---- an emptied memory
+-- ---- an emptied memo
 
 -- it has only the key 0
 pub empty-key : (memo : List ℕ) (n e : ℕ) → memo ≡ replicate n 0 → getD memo (e * 2) 0 ≡ 0
@@ -38,7 +38,7 @@ right-empty p memo n is = record { holds = λ e t out b l z. absurd (omega (arit
 pub looked-hit : (memo : List ℕ) (e key : ℕ) → getD memo (e * 2) 0 ≡ key → Present memo key (getD memo (e * 2 + 1) 0)
 looked-hit memo e key k = record { at = e; entry = record { under = k; kept = refl } }
 
-module _ (ws memo : List ℕ) (l : Layout) (t out key v : ℕ) (found : Kept) (f : Filed ws l) (h : t < l .weeks) (b : out < SETS)
+module _ (ws memo : List ℕ) (l : Layout) (t out key v : ℕ) (found : Stored) (f : Filed ws l) (h : t < l .weeks) (b : out < SETS)
     (k : key ≡ keyOf t out) (m : Right (problemOf ws) memo) (looked : Looked memo key found) (is : found ≡ Word v) where
   present : Present memo key v
   present = subst (Looked memo key) is looked
@@ -118,7 +118,7 @@ module _ (p : Problem) (memo memo′ : List ℕ) (key v : ℕ) (right : Right p 
 
 -- ---- the entries under another's keys
 
--- those of a memory that is left as it is
+-- those of a memo that is left as it is
 pub others-same : (memo : List ℕ) → Others memo memo
 others-same memo = record { same = λ e h. record { under = refl; kept = refl } }
 

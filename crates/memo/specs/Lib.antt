@@ -1,2 +1,2 @@
--- keys, and what the memory may hold
+-- keys, and what the memo may hold
 pub mod Memo

@@ -1,4 +1,4 @@
--- A memory of numbers in lent words: words taken in twos, each two an entry, a key and what is kept under it. What weeks' cheapest runs cost is kept
+-- A memo of numbers in lent words: words taken in twos, each two an entry, a key and what is kept under it. What weeks' cheapest runs cost is kept
 -- under the small keys; the keys from OTHERS on are another's.
 -- Assumes nothing.
 use Prim.Native.Nat.{ℕ, _+_, _*_, _≤_, _<_}
@@ -10,8 +10,8 @@ use Rattle.sums.specs.NumSet.{has}
 use Rattle.model.specs.Problem.{Problem}
 use Rattle.model.specs.Commitment.{fullLeast}
 use Rattle.sets.specs.Sets.{SETS}
-use Rattle.memo.specs.declared.Kept.{Kept}
-use Rattle.memo.specs.declared.Kept.the-variants.{Nothing, Word}
+use Rattle.memo.specs.declared.Stored.{Stored}
+use Rattle.memo.specs.declared.Stored.the-variants.{Nothing, Word}
 
 -- entry e has this key, and v is kept under it; past the end all words count as 0
 pub record Entry (memo : List ℕ) (e key v : ℕ) : Type 0 where
@@ -24,11 +24,11 @@ pub record Present (memo : List ℕ) (key v : ℕ) : Type 0 where
   pub entry : Entry memo at key v
 
 -- what is found under a key, if anything is
-abbrev pub Looked : List ℕ → ℕ → Kept → Type 0
+abbrev pub Looked : List ℕ → ℕ → Stored → Type 0
 Looked memo key Nothing = Unit {0}
 Looked memo key (Word v) = Present memo key v
 
--- each entry of the second memory is that of the first, or has this key and v
+-- each entry of the second memo is that of the first, or has this key and v
 pub record Wrote (memo memo′ : List ℕ) (key v : ℕ) : Type 0 where
   pub each : (e : ℕ) → Entry memo′ e (getD memo (e * 2) 0) (getD memo (e * 2 + 1) 0) ⊎ Entry memo′ e key v
 
@@ -36,7 +36,7 @@ pub record Wrote (memo memo′ : List ℕ) (key v : ℕ) : Type 0 where
 abbrev pub OTHERS : ℕ
 OTHERS = 4194304
 
--- an entry of the second memory under another's key is one of the first
+-- an entry of the second memo under another's key is one of the first
 pub record Others (memo memo′ : List ℕ) : Type 0 where
   pub same : (e : ℕ) → OTHERS ≤ getD memo′ (e * 2) 0 → Entry memo e (getD memo′ (e * 2) 0) (getD memo′ (e * 2 + 1) 0)
 

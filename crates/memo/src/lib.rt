@@ -1,4 +1,4 @@
-// A memory in lent words: entries of two words, a key and what is kept under it. What weeks' cheapest runs cost is kept here under keys made of the
+// A memo in lent words: entries of two words, a key and what is kept under it. What weeks' cheapest runs cost is kept here under keys made of the
 // week and the units out; the keys from OTHERS on are for another's use. There may be any number of words, even none; an entry that is overwritten is
 // only computed again. Weeks count from 0.
 use instance::Euro;
@@ -18,7 +18,7 @@ ghost use Rattle.memo.specs.Memo.{Looked, Wrote, Others, keyOf, Right};
 // 2^22: the first key that is another's.
 pub const OTHERS: u32 = 4194304;
 
-// Empties the memory, whatever it held.
+// Empties the memo, whatever it held.
 pub fn clear(memo: &mut [u32])
     ensures { λ r. ⌜ now (memo .exit) ≡ replicate (length (now (memo .entry))) 0 ⌝ }
 {
@@ -47,25 +47,25 @@ fn slot(key: u32, entries: usize) -> usize
     spread
 }
 
-// What the memory has under a key, if it has the key.
-pub enum Kept {
+// What the memo has under a key, if it has the key.
+pub enum Stored {
     Nothing,
     Word(u32),
 }
 
 // Looks a key up.
-pub fn lookup(memo: &[u32], key: u32) -> Kept
+pub fn lookup(memo: &[u32], key: u32) -> Stored
     ensures { λ r. ⌜ Looked (now (memo .entry)) key r ⌝ }
 {
     let entries = memo.len() / 2;
     if entries == 0 {
-        return Kept::Nothing;
+        return Stored::Nothing;
     }
     let at = slot(key, entries) * 2;
     if memo[at] == key {
-        return Kept::Word(memo[at + 1]);
+        return Stored::Word(memo[at + 1]);
     }
-    Kept::Nothing
+    Stored::Nothing
 }
 
 // Keeps a word under a key, in place of what stood where the key belongs.
@@ -80,8 +80,8 @@ pub fn keep(memo: &mut [u32], key: u32, word: u32)
     }
 }
 
-// What the cheapest run of week t costs with OFF charged to the units out too, NO_RUN where there is none: from the memory, or computed and kept
-// there.
+// What the cheapest run of week t costs with OFF charged to the units out too, NO_RUN where there is none: from the memo, or computed and kept
+// there (D50).
 pub fn full_least(words: &[u32], l: Layout, t: usize, out: u32, memo: &mut [u32]) -> Euro
     requires { ⌜ Filed (now words) l ⌝ }
     requires { ⌜ t < l .weeks ⌝ }
@@ -94,7 +94,7 @@ pub fn full_least(words: &[u32], l: Layout, t: usize, out: u32, memo: &mut [u32]
     }
     let key = key_of(t, out);
     let found = lookup(memo, key);
-    if let Kept::Word(word) = found {
+    if let Stored::Word(word) = found {
         return Euro(word as u64);
     }
     let cost = commitment::full_least(words, l, t, out);

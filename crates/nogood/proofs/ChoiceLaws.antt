@@ -8,7 +8,7 @@ use native.Mathlib.Omega.{arith}
 use lib.ListN.{length, length-append}
 use Rattle.sums.specs.Logic.{if}
 use Rattle.sums.specs.Sum.{sumTo, countsOne}
-use Rattle.sums.specs.NumSet.{NumSet, pick}
+use Rattle.sums.specs.NumSet.{NumSet, onlyIn}
 use Rattle.model.specs.Nogood.{Choice, choiceWords}
 use Rattle.nogood.specs.Noting.{choiceOf, choicesOf}
 
@@ -24,8 +24,8 @@ unfolding choiceWords
 choice-words-length [] = refl
 choice-words-length (c ∷ cs) = rw (choice-words-length cs)
 
-choice-count : (starts : ℕ → ℕ) (b : NumSet) (k : ℕ) → length (choiceOf starts b k) ≡ pick b countsOne k
-unfolding choiceOf pick countsOne
+choice-count : (starts : ℕ → ℕ) (b : NumSet) (k : ℕ) → length (choiceOf starts b k) ≡ onlyIn b countsOne k
+unfolding choiceOf onlyIn countsOne
 choice-count starts b k = go (b k)
   where
     go : (c : Bool) → length {A = Choice} (if c (record { unit = k; start = starts k } ∷ []) []) ≡ if c 1 0
@@ -33,7 +33,7 @@ choice-count starts b k = go (b k)
     go false = refl
 
 -- as many as units of the set
-pub choices-count : (starts : ℕ → ℕ) (b : NumSet) (k : ℕ) → length (choicesOf starts b k) ≡ sumTo k (pick b countsOne)
+pub choices-count : (starts : ℕ → ℕ) (b : NumSet) (k : ℕ) → length (choicesOf starts b k) ≡ sumTo k (onlyIn b countsOne)
 unfolding choicesOf sumTo
 choices-count starts b zero = refl
 choices-count starts b (suc k) =

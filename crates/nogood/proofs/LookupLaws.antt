@@ -15,7 +15,7 @@ use Rattle.model.specs.Schedule.{Schedule, Sound, cost}
 use Rattle.model.specs.Words.{VALUES, _∶_, kindOf, valueOf}
 use Rattle.model.specs.Nogood.{Choice, Nogood, Takes, Legal, IsNogood, AreNogoods, choiceWords, nogoodWords, nogoodsWords}
 use Rattle.model.proofs.DomainLaws.{permits-below}
-use Rattle.nogood.specs.Recall.{Chosen, Choices, Has}
+use Rattle.nogood.specs.Recall.{CHOICE_RADIX, Chosen, Choices, Has}
 
 -- a schedule that has the choices behind a bound costs more than the bound, wherever it stands in the words
 pub record BoundsHold (p : Problem) (w : List ℕ) : Type 0 where
@@ -44,18 +44,18 @@ unfolding valueOf
 bound-told b l = omega arith
 
 module _ (p : Problem) (fair : Fair p) (short : p .weeks < 64) (few : p .units ≤ 16) where
-  choice-kind : (c : Choice) → c .unit < p .units → permitted p (c .unit) (c .start) ≡ true → kindOf (14 ∶ ((c .unit + 1) * 64 + c .start)) ≡ 14
+  choice-kind : (c : Choice) → c .unit < p .units → permitted p (c .unit) (c .start) ≡ true → kindOf (14 ∶ ((c .unit + 1) * CHOICE_RADIX + c .start)) ≡ 14
   unfolding kindOf
   choice-kind c l e = omega (arith, permits-below p fair (c .unit) (c .start) l e)
 
   -- a choice that is read is the one that was written
   choice-told : (c : Choice) (starts : ℕ → ℕ) → c .unit < p .units → permitted p (c .unit) (c .start) ≡ true
-      → Chosen starts (14 ∶ ((c .unit + 1) * 64 + c .start)) → starts (c .unit) ≡ c .start
+      → Chosen starts (14 ∶ ((c .unit + 1) * CHOICE_RADIX + c .start)) → starts (c .unit) ≡ c .start
   unfolding valueOf
   choice-told c starts l e h =
       let s = permits-below p fair (c .unit) (c .start) l e in
-      let u : (14 ∶ ((c .unit + 1) * 64 + c .start)) % VALUES / 64 - 1 ≡ c .unit = omega arith in
-      let v : (14 ∶ ((c .unit + 1) * 64 + c .start)) % VALUES % 64 ≡ c .start = omega arith in
+      let u : (14 ∶ ((c .unit + 1) * CHOICE_RADIX + c .start)) % VALUES / CHOICE_RADIX - 1 ≡ c .unit = omega arith in
+      let v : (14 ∶ ((c .unit + 1) * CHOICE_RADIX + c .start)) % VALUES % CHOICE_RADIX ≡ c .start = omega arith in
       ap starts (sym u) ∙ h ∙ v
 
   -- choices are of their kind
@@ -76,12 +76,12 @@ module _ (p : Problem) (fair : Fair p) (short : p .weeks < 64) (few : p .units �
     choices-taken (c .unit + 1) cs rest s (h .3) (λ m run. each (suc m) (λ q l. onward m run q l)),
   )
     where
-      first : (q : ℕ) → q ≤ 0 → kindOf (getD (14 ∶ ((c .unit + 1) * 64 + c .start) ∷ (choiceWords cs ++ rest)) q 0) ≡ 14
+      first : (q : ℕ) → q ≤ 0 → kindOf (getD (14 ∶ ((c .unit + 1) * CHOICE_RADIX + c .start) ∷ (choiceWords cs ++ rest)) q 0) ≡ 14
       first zero l = choice-kind c (h .1) (h .2)
       first (suc q) l = absurd (omega arith)
 
       onward : (m : ℕ) → ((q : ℕ) → q ≤ m → kindOf (getD (choiceWords cs ++ rest) q 0) ≡ 14) → (q : ℕ) → q ≤ suc m
-          → kindOf (getD (14 ∶ ((c .unit + 1) * 64 + c .start) ∷ (choiceWords cs ++ rest)) q 0) ≡ 14
+          → kindOf (getD (14 ∶ ((c .unit + 1) * CHOICE_RADIX + c .start) ∷ (choiceWords cs ++ rest)) q 0) ≡ 14
       onward m run zero l = choice-kind c (h .1) (h .2)
       onward m run (suc q) l = run q (omega arith)
 

@@ -9,13 +9,13 @@ use native.Mathlib.Omega.{arith}
 use lib.ListN.{length, getD, List·getD-eq-default}
 use borrow.Author.Count.{below-more}
 use Rattle.sums.specs.NumSet.{has, with}
+use Rattle.sums.specs.Table.{entry}
 use Rattle.sums.proofs.LogicLaws.{true-false}
 use Rattle.sums.proofs.NumSetLaws.{zero-has, with-at, with-old, with-else}
 use Rattle.model.specs.Words.{kindOf, valueOf}
-use Rattle.blame.specs.Closed.{startIn}
-use Rattle.nogood.specs.declared.Hit.{Hit}
-use Rattle.nogood.specs.declared.Hit.the-variants.{Miss, Cut}
-use Rattle.nogood.specs.Recall.{Chosen, UnitMet, Choices, Match, Matched, Recall, Recalled}
+use Rattle.nogood.specs.declared.Scan.{Scan}
+use Rattle.nogood.specs.declared.Scan.the-variants.{Miss, Cut}
+use Rattle.nogood.specs.Recall.{CHOICE_RADIX, Chosen, UnitMet, Choices, Match, Matched, Recall, Recalled}
 
 -- ---- a choice
 
@@ -24,11 +24,11 @@ pub unit-none : (xs : List ℕ) (k x : ℕ) → UnitMet xs k x 0
 unit-none xs k x = record { most = omega arith; unit = λ l. absurd (omega arith); start = λ l. absurd (omega arith) }
 
 -- a unit whose start xs has
-pub unit-some : (xs : List ℕ) (k x v s : ℕ) → v ≡ valueOf x → v / 64 ≤ k → s ≡ startIn xs (v / 64 - 1) → s ≡ v % 64 → UnitMet xs k x (v / 64)
+pub unit-some : (xs : List ℕ) (k x v s : ℕ) → v ≡ valueOf x → v / CHOICE_RADIX ≤ k → s ≡ entry xs (v / CHOICE_RADIX - 1) → s ≡ v % CHOICE_RADIX → UnitMet xs k x (v / CHOICE_RADIX)
 unit-some xs k x v s is l e f = record {
   most = l;
-  unit = λ z. ap (λ (t : ℕ). t / 64) is;
-  start = λ z. sym e ∙ f ∙ ap (λ (t : ℕ). t % 64) is;
+  unit = λ z. ap (λ (t : ℕ). t / CHOICE_RADIX) is;
+  start = λ z. sym e ∙ f ∙ ap (λ (t : ℕ). t % CHOICE_RADIX) is;
 }
 
 -- ---- choice by choice
@@ -37,7 +37,7 @@ unit-some xs k x v s is l e f = record {
 pub record Reading (w xs : List ℕ) (k i b m : ℕ) : Type 0 where
   pub after : i < m
   pub upto : m ≤ length w
-  pub chosen : (starts : ℕ → ℕ) → ((q : ℕ) → has b q ≡ true → starts q ≡ startIn xs q) → (q : ℕ) → i < q → q < m → Chosen starts (getD w q 0)
+  pub chosen : (starts : ℕ → ℕ) → ((q : ℕ) → has b q ≡ true → starts q ≡ entry xs q) → (q : ℕ) → i < q → q < m → Chosen starts (getD w q 0)
   pub within : (q : ℕ) → has b q ≡ true → q < k
 
 -- none read yet
@@ -70,8 +70,8 @@ reading-next w xs k i b r m u h l met low joined = record {
     inside q x (yes z) = let t = met .most in omega arith
     inside q x (no z) = h .within q (sym (joined q ∙ with-else (has b) (u - 1) q z) ∙ x)
 
-    here : (starts : ℕ → ℕ) → ((j : ℕ) → has r j ≡ true → starts j ≡ startIn xs j) → Chosen starts (getD w m 0)
-    here starts on = subst (λ (t : ℕ). starts (t - 1) ≡ valueOf (getD w m 0) % 64) (met .unit low) (on (u - 1) new ∙ met .start low)
+    here : (starts : ℕ → ℕ) → ((j : ℕ) → has r j ≡ true → starts j ≡ entry xs j) → Chosen starts (getD w m 0)
+    here starts on = subst (λ (t : ℕ). starts (t - 1) ≡ valueOf (getD w m 0) % CHOICE_RADIX) (met .unit low) (on (u - 1) new ∙ met .start low)
 
 reading-stop : (w xs : List ℕ) (k i b m : ℕ) → Reading w xs k i b m → (kindOf (getD w m 0) ≡ 14 → ⊥) → Match w xs k i b
 reading-stop w xs k i b m h stop = record {
@@ -79,7 +79,7 @@ reading-stop w xs k i b m h stop = record {
   within = h .within;
 }
   where
-    by : (starts : ℕ → ℕ) → ((j : ℕ) → has b j ≡ true → starts j ≡ startIn xs j) → (q : ℕ) → i < q → Choices w i q → Dec (q < m)
+    by : (starts : ℕ → ℕ) → ((j : ℕ) → has b j ≡ true → starts j ≡ entry xs j) → (q : ℕ) → i < q → Choices w i q → Dec (q < m)
         → Chosen starts (getD w q 0)
     by starts on q x run (yes z) = h .chosen starts on q x z
     by starts on q x run (no z) = absurd (stop (run m (h .after) (omega arith)))
@@ -96,12 +96,12 @@ reading-out w xs k i b m h l = reading-stop w xs k i b m h (λ e. absurd (omega 
 -- ---- the nogood at a place
 
 -- its bound covers the limit, and whoever was met has its choices
-pub recalled : (w xs : List ℕ) (k limit i kind v : ℕ) (h : Hit) → kind ≡ kindOf (getD w i 0) → kind ≡ 13 → v ≡ valueOf (getD w i 0) → limit ≤ v + 1
+pub recalled : (w xs : List ℕ) (k limit i kind v : ℕ) (h : Scan) → kind ≡ kindOf (getD w i 0) → kind ≡ 13 → v ≡ valueOf (getD w i 0) → limit ≤ v + 1
     → i < length w → Matched w xs k i h → Recalled w xs k limit h
 recalled w xs k limit i kind v Miss e f g c l m = tt
 recalled w xs k limit i kind v (Cut b) e f g c l m =
     record { at = i; below = l; bound = sym e ∙ f; covers = subst (λ (x : ℕ). limit ≤ x + 1) g c; match = m }
 
 -- the answer is told as it came
-pub told : (w xs : List ℕ) (k limit b : ℕ) (h : Hit) → Recalled w xs k limit h → h ≡ Cut b → Recall w xs k limit b
+pub told : (w xs : List ℕ) (k limit b : ℕ) (h : Scan) → Recalled w xs k limit h → h ≡ Cut b → Recall w xs k limit b
 told w xs k limit b h r e = subst (Recalled w xs k limit) e r

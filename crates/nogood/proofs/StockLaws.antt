@@ -11,6 +11,7 @@ use lib.Dec.{eqb}
 use borrow.Author.Tests.{eqb-false}
 use Rattle.sums.specs.Logic.{if}
 use Rattle.sums.specs.NumSet.{has}
+use Rattle.sums.specs.Table.{entry}
 use Rattle.model.specs.Problem.{Problem, Fair}
 use Rattle.model.specs.Domain.{permitted}
 use Rattle.model.specs.Schedule.{Schedule, Sound, cost}
@@ -18,11 +19,11 @@ use Rattle.model.specs.Words.{_∶_}
 use Rattle.model.specs.Nogood.{MOST_LIMIT, Choice, Nogood, IsNogood, AreNogoods, DeadEndsBelow, choiceWords, nogoodWords, nogoodsWords}
 use Rattle.model.specs.Nogood.{aloneFirst, boundsAlone}
 use Rattle.model.proofs.NogoodLaws.{nogoods-words-append, bounds-alone-append}
-use Rattle.blame.specs.Closed.{Closed, startIn}
+use Rattle.blame.specs.Closed.{Closed}
 use Rattle.lent.specs.Splice.{spliced}
-use Rattle.nogood.specs.Noting.{choicesOf, nogoodFor, notable, notedUsed, noted, endBounds, endUsed, ended}
+use Rattle.nogood.specs.Noting.{KEPT_FREE, choicesOf, nogoodFor, notable, notedUsed, noted, endBounds, endUsed, ended}
 use Rattle.nogood.specs.Recall.{Has, Recall}
-use Rattle.nogood.specs.Stock.{Stock, Grown, Ends, DeadEnds}
+use Rattle.nogood.specs.Stock.{Stock, Grown, EndsUnder, DeadEnds}
 use Rattle.lent.proofs.SpliceLaws.{splice-one, splice-length}
 use Rattle.nogood.proofs.ChoiceLaws.{choice-words-length}
 use Rattle.nogood.proofs.NotingLaws.{notable-has}
@@ -54,15 +55,15 @@ module _ (p : Problem) (gs : List Nogood) (words : List ℕ) (used : ℕ) where
       record { more = []; are = a; stock = subst (λ (l : List Nogood). Stock p l words used) (sym (append-nil gs)) s }
 
   -- once and then again: what it held at first stands there still
-  pub grown-next : (xs ys words′ : List ℕ) (used′ : ℕ) → Grown p (Ends xs) gs words used
-      → ((hs : List Nogood) → Stock p hs words used → Grown p (Ends ys) hs words′ used′) → Grown p (Ends (xs ++ ys)) gs words′ used′
+  pub grown-next : (xs ys words′ : List ℕ) (used′ : ℕ) → Grown p (EndsUnder xs) gs words used
+      → ((hs : List Nogood) → Stock p hs words used → Grown p (EndsUnder ys) hs words′ used′) → Grown p (EndsUnder (xs ++ ys)) gs words′ used′
   grown-next xs ys words′ used′ g next = record {
     more = g .more ++ then .more;
     are = bounds-alone-append (g .more) (then .more) ∙ ap₂ {C = List ℕ} _++_ (g .are) (then .are);
     stock = subst (λ (l : List Nogood). Stock p l words′ used′) (append-assoc gs (g .more) (then .more)) (then .stock);
   }
     where
-      then : Grown p (Ends ys) (gs ++ g .more) words′ used′
+      then : Grown p (EndsUnder ys) (gs ++ g .more) words′ used′
       then = next (gs ++ g .more) (g .stock)
 
   -- the words that were used are as they were
@@ -118,13 +119,13 @@ dead-ends-and top q (f ∷ gs) g d h =
 module _ (p : Problem) (old : List Nogood) (words : List ℕ) (used : ℕ) (g : Nogood) (s : Stock p old words used) where
   -- a nogood behind the others
   stock-and : IsNogood p g → used + length (nogoodWords g) ≤ length words
-      → (0 < length (g .choices) → used + length (nogoodWords g) ≤ length words - 32)
+      → (0 < length (g .choices) → used + length (nogoodWords g) ≤ length words - KEPT_FREE)
       → Stock p (old ++ (g ∷ [])) (spliced used (nogoodWords g) words) (used + length (nogoodWords g))
   stock-and is room low = record {
     table = record {
       fits = omega (arith, ends, long);
       stand = stand;
-      kept-free = rw long (dead-ends-and (length words - 32) 0 old g (s .table .kept-free) (λ l. omega (arith, low l, s .ends)));
+      kept-free = rw long (dead-ends-and (length words - KEPT_FREE) 0 old g (s .table .kept-free) (λ l. omega (arith, low l, s .ends)));
       are = nogoods-and p old g (s .table .are) is;
     };
     ends = ends;
@@ -165,17 +166,17 @@ none-alone g l = go (g .choices) l
 
 -- a table with a dead end that was noted, or left out
 pub stock-noted : (p : Problem) (gs : List Nogood) (words xs : List ℕ) (used k b limit : ℕ) → Stock p gs words used → k ≤ p .units → limit ≤ MOST_LIMIT
-    → ((i : ℕ) → i < k → permitted p i (startIn xs i) ≡ true) → ((i : ℕ) → has b i ≡ true → i < k) → Closed p (has b) (startIn xs) limit
-    → Grown p DeadEnds gs (noted words used limit (nogoodFor (startIn xs) (has b) k limit))
-    (notedUsed (length words) used limit (nogoodFor (startIn xs) (has b) k limit))
+    → ((i : ℕ) → i < k → permitted p i (entry xs i) ≡ true) → ((i : ℕ) → has b i ≡ true → i < k) → Closed p (has b) (entry xs) limit
+    → Grown p DeadEnds gs (noted words used limit (nogoodFor (entry xs) (has b) k limit))
+    (notedUsed (length words) used limit (nogoodFor (entry xs) (has b) k limit))
 unfolding noted notedUsed boundsAlone
 stock-noted p gs words xs used k b limit s l high permits inside closed = go (notable (length words) used limit cs) refl
   where
     cs : List Choice
-    cs = choicesOf (startIn xs) (has b) k
+    cs = choicesOf (entry xs) (has b) k
 
     g : Nogood
-    g = nogoodFor (startIn xs) (has b) k limit
+    g = nogoodFor (entry xs) (has b) k limit
 
     go : (t : Bool) → notable (length words) used limit cs ≡ t
         → Grown p DeadEnds gs (if t (spliced used (nogoodWords g) words) words) (if t (used + length (nogoodWords g)) used)
@@ -187,12 +188,12 @@ stock-noted p gs words xs used k b limit s l high permits inside closed = go (no
           more = g ∷ [];
           are = none-alone g (f .1);
           stock =
-              stock-and p gs words used g s (dead-end-nogood p (startIn xs) (has b) k limit (f .0) high l (let few : length (choicesOf (startIn xs) (has b) k) ≤ 8 = omega (arith, f .2) in few) permits inside closed)
+              stock-and p gs words used g s (dead-end-nogood p (entry xs) (has b) k limit (f .0) high l (let few : length (choicesOf (entry xs) (has b) k) ≤ 8 = omega (arith, f .2) in few) permits inside closed)
               (omega arith) (λ z. omega arith);
         }
 
 -- how many words it may use
-pub stock-room : (lent used limit n : ℕ) (g : Nogood) → used ≤ n → lent - 32 ≤ n → notedUsed lent used limit g ≤ n
+pub stock-room : (lent used limit n : ℕ) (g : Nogood) → used ≤ n → lent - KEPT_FREE ≤ n → notedUsed lent used limit g ≤ n
 unfolding notedUsed
 stock-room lent used limit n g l h = go (notable lent used limit (g .choices)) refl
   where
@@ -216,7 +217,7 @@ noted-length words used limit g = go (notable (length words) used limit (g .choi
 
 -- a table with the end of a walk, under which no schedule costs less than the limit
 pub stock-ended : (p : Problem) (gs : List Nogood) (words : List ℕ) (used limit : ℕ) → Stock p gs words used → used < length words → limit ≤ MOST_LIMIT
-    → ((s : Schedule) → Sound p s → limit ≤ cost p s) → Grown p (Ends (endBounds limit)) gs (ended words used limit) (endUsed used limit)
+    → ((s : Schedule) → Sound p s → limit ≤ cost p s) → Grown p (EndsUnder (endBounds limit)) gs (ended words used limit) (endUsed used limit)
 unfolding endBounds ended endUsed nogoodWords choiceWords boundsAlone aloneFirst
 stock-ended p gs words used limit s l high none = go (eqb limit 0) refl
   where
@@ -224,8 +225,8 @@ stock-ended p gs words used limit s l high none = go (eqb limit 0) refl
     g = record { bound = limit - 1; choices = [] }
 
     go : (t : Bool) → eqb limit 0 ≡ t
-        → Grown p (Ends (if t [] ((limit - 1) ∷ []))) gs (if t words (set words used (13 ∶ (limit - 1)))) (if t used (used + 1))
-    go true e = grown-none p gs words used (Ends []) refl s
+        → Grown p (EndsUnder (if t [] ((limit - 1) ∷ []))) gs (if t words (set words used (13 ∶ (limit - 1)))) (if t used (used + 1))
+    go true e = grown-none p gs words used (EndsUnder []) refl s
     go false e =
         let ne = eqb-false limit 0 e in
         record {
@@ -258,7 +259,7 @@ ended-length words used limit = go (eqb limit 0)
 
 -- the starts that meet a nogood of the table whose bound covers the limit are a dead end
 pub recall-closed : (p : Problem) (gs : List Nogood) (words xs : List ℕ) (used k limit b : ℕ) → Fair p → p .weeks < 64 → p .units ≤ 16 → k ≤ p .units
-    → Stock p gs words used → Recall words xs k limit b → Closed p (has b) (startIn xs) limit
+    → Stock p gs words used → Recall words xs k limit b → Closed p (has b) (entry xs) limit
 recall-closed p gs words xs used k limit b fair short few l s r = record {
   costs = λ t sound on. by t (r .match .takes (t .start) (λ q h. on q (omega (arith, r .match .within q h)) h)) sound;
 }

@@ -11,6 +11,14 @@ use Rattle.lent.specs.Splice.{spliced}
 use Rattle.model.specs.Words.{_∶_}
 use Rattle.model.specs.Nogood.{Choice, Nogood, nogoodWords}
 
+-- dead ends leave so many words of the table free, for the ends of walks
+abbrev pub KEPT_FREE : ℕ
+KEPT_FREE = 32
+
+-- besides its choices a dead end needs room for its bound, and what stays free
+abbrev pub NOTE_ROOM : ℕ
+NOTE_ROOM = 1 + KEPT_FREE
+
 -- unit k and its start, where the set has it
 unfoldable pub choiceOf : (ℕ → ℕ) → NumSet → ℕ → List Choice
 choiceOf starts b k = if (b k) (record { unit = k; start = starts k } ∷ []) []
@@ -25,9 +33,9 @@ choicesOf starts b (suc k) = choicesOf starts b k ++ choiceOf starts b k
 abbrev pub nogoodFor : (ℕ → ℕ) → NumSet → (k limit : ℕ) → Nogood
 nogoodFor starts b k limit = record { bound = limit - 1; choices = choicesOf starts b k }
 
--- a dead end is noted: it has 1 to 3 choices (document 01 allows 8; few cut more), a bound, and space that leaves the last 32 words free
+-- a dead end is noted: it has 1 to 3 choices (document 01 allows 8; few cut more), a bound, and space that leaves the last words free
 unfoldable pub notable : (lent used limit : ℕ) → List Choice → Bool
-notable lent used limit cs = leb 1 limit && (leb 1 (length cs) && (leb (length cs) 3 && leb (used + 1 + length cs + 32) lent))
+notable lent used limit cs = leb 1 limit && (leb 1 (length cs) && (leb (length cs) 3 && leb (used + 1 + length cs + KEPT_FREE) lent))
 
 -- how many words are used then
 unfoldable pub notedUsed : (lent used limit : ℕ) → Nogood → ℕ

@@ -6,20 +6,24 @@ use mathlib.Core.Bool.{true}
 use mathlib.Core.List.{List}
 use lib.ListN.{length, getD}
 use Rattle.sums.specs.NumSet.{has}
+use Rattle.sums.specs.Table.{entry}
 use Rattle.model.specs.Words.{kindOf, valueOf}
-use Rattle.blame.specs.Closed.{startIn}
-use Rattle.nogood.specs.declared.Hit.{Hit}
-use Rattle.nogood.specs.declared.Hit.the-variants.{Miss, Cut}
+use Rattle.nogood.specs.declared.Scan.{Scan}
+use Rattle.nogood.specs.declared.Scan.the-variants.{Miss, Cut}
 
--- the starts have the choice of the word x: unit × 64 + start, units from 1
+-- a choice is unit × CHOICE_RADIX + start, units from 1
+abbrev pub CHOICE_RADIX : ℕ
+CHOICE_RADIX = 64
+
+-- the starts have the choice of the word x
 abbrev pub Chosen : (ℕ → ℕ) → ℕ → Type 0
-Chosen starts x = starts (valueOf x / 64 - 1) ≡ valueOf x % 64
+Chosen starts x = starts (valueOf x / CHOICE_RADIX - 1) ≡ valueOf x % CHOICE_RADIX
 
 -- u is the unit, from 1 and one of the first k, of a choice x that xs has; or 0
 pub record UnitMet (xs : List ℕ) (k x u : ℕ) : Type 0 where
   pub most : u ≤ k
-  pub unit : 1 ≤ u → u ≡ valueOf x / 64
-  pub start : 1 ≤ u → startIn xs (u - 1) ≡ valueOf x % 64
+  pub unit : 1 ≤ u → u ≡ valueOf x / CHOICE_RADIX
+  pub start : 1 ≤ u → entry xs (u - 1) ≡ valueOf x % CHOICE_RADIX
 
 -- the words after i up to m are choices
 abbrev pub Choices : List ℕ → (i m : ℕ) → Type 0
@@ -31,7 +35,7 @@ pub record Has (w : List ℕ) (i : ℕ) (starts : ℕ → ℕ) : Type 0 where
 
 -- whoever has the starts of xs for the units of b, all below k, has all choices of the nogood at i
 pub record Match (w xs : List ℕ) (k i b : ℕ) : Type 0 where
-  pub takes : (starts : ℕ → ℕ) → ((q : ℕ) → has b q ≡ true → starts q ≡ startIn xs q) → Has w i starts
+  pub takes : (starts : ℕ → ℕ) → ((q : ℕ) → has b q ≡ true → starts q ≡ entry xs q) → Has w i starts
   pub within : (q : ℕ) → has b q ≡ true → q < k
 
 -- a nogood of the table whose choices xs has, and whose bound is at or above the walk's own, limit - 1
@@ -43,11 +47,11 @@ pub record Recall (w xs : List ℕ) (k limit b : ℕ) : Type 0 where
   pub match : Match w xs k at b
 
 -- what is said of one nogood
-abbrev pub Matched : (w xs : List ℕ) (k i : ℕ) → Hit → Type 0
+abbrev pub Matched : (w xs : List ℕ) (k i : ℕ) → Scan → Type 0
 Matched w xs k i Miss = Unit {0}
 Matched w xs k i (Cut b) = Match w xs k i b
 
 -- and of the table: a nogood may be missed, which costs time and nothing else; one that cuts is there
-abbrev pub Recalled : (w xs : List ℕ) (k limit : ℕ) → Hit → Type 0
+abbrev pub Recalled : (w xs : List ℕ) (k limit : ℕ) → Scan → Type 0
 Recalled w xs k limit Miss = Unit {0}
 Recalled w xs k limit (Cut b) = Recall w xs k limit b

@@ -19,9 +19,9 @@ pub record Grown (p : Problem) (Are : List Nogood → Type 0) (gs : List Nogood)
   pub stock : Stock p (gs ++ more) words used
 
 -- those without choices, which the end of a walk leaves, have these bounds
-abbrev pub Ends : List ℕ → List Nogood → Type 0
-Ends bounds gs = boundsAlone gs ≡ bounds
+abbrev pub EndsUnder : List ℕ → List Nogood → Type 0
+EndsUnder bounds gs = boundsAlone gs ≡ bounds
 
 -- none is without choices
 abbrev pub DeadEnds : List Nogood → Type 0
-DeadEnds gs = Ends [] gs
+DeadEnds gs = EndsUnder [] gs

@@ -4,7 +4,7 @@ use Prim.Native.Nat.{ℕ, suc, _+_, _-_, _≤_, _<_}
 use mathlib.Core.Path.{_≡_, _∙_, ap}
 use native.Mathlib.Omega.{arith}
 use Rattle.sums.specs.Sum.{sumTo, shifted}
-use Rattle.sums.specs.NumSet.{pick}
+use Rattle.sums.specs.NumSet.{onlyIn}
 use Rattle.sums.proofs.LogicLaws.{not-so}
 use Rattle.sums.proofs.SumLaws.{sum-same, sum-zero, sum-cut}
 use Rattle.model.specs.Schedule.{inSpan}
@@ -13,26 +13,26 @@ use Rattle.model.proofs.DomainLaws.{span-from, span-below, span-of}
 -- d weeks from week a on, of the terms f
 module _ (a d : ℕ) (f : ℕ → ℕ) where
   -- no week before
-  before-none : (t : ℕ) → t < a → pick (inSpan (suc a) d) f t ≡ 0
-  unfolding pick
+  before-none : (t : ℕ) → t < a → onlyIn (inSpan (suc a) d) f t ≡ 0
+  unfolding onlyIn
   before-none t h = rw (not-so (inSpan (suc a) d t) (λ e. omega (arith, span-from (suc a) d t e)))
 
   -- none after
-  after-none : (t : ℕ) → a + d ≤ t → pick (inSpan (suc a) d) f t ≡ 0
-  unfolding pick
+  after-none : (t : ℕ) → a + d ≤ t → onlyIn (inSpan (suc a) d) f t ≡ 0
+  unfolding onlyIn
   after-none t h = rw (not-so (inSpan (suc a) d t) (λ e. omega (arith, span-below (suc a) d t e)))
 
   -- each of the d
-  inside-all : (k : ℕ) → k < d → pick (inSpan (suc a) d) f (a + k) ≡ f (a + k)
-  unfolding pick
+  inside-all : (k : ℕ) → k < d → onlyIn (inSpan (suc a) d) f (a + k) ≡ f (a + k)
+  unfolding onlyIn
   inside-all k h = rw (span-of (suc a) d (a + k) (omega arith) (omega arith))
 
   -- of w weeks, where the overhaul ends in time
-  pub span-sum : (w : ℕ) → a + d ≤ w → sumTo w (pick (inSpan (suc a) d) f) ≡ sumTo d (shifted a f)
+  pub span-sum : (w : ℕ) → a + d ≤ w → sumTo w (onlyIn (inSpan (suc a) d) f) ≡ sumTo d (shifted a f)
   unfolding shifted
   span-sum w h =
       let e : w ≡ (a + d) + (w - (a + d)) = omega arith in
-      let p = pick (inSpan (suc a) d) f in
+      let p = onlyIn (inSpan (suc a) d) f in
       ap (λ (z : ℕ). sumTo z p) e
       ∙ (omega (
         arith,

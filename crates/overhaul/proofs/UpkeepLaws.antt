@@ -5,7 +5,7 @@ use mathlib.Core.Path.{_≡_, sym, _∙_, ap}
 use mathlib.Core.Bool.{true}
 use mathlib.Core.List.{List}
 use native.Mathlib.Omega.{arith}
-use Rattle.sums.specs.Sum.{sumTo, shifted, turned}
+use Rattle.sums.specs.Sum.{sumTo, shifted, transposed}
 use Rattle.sums.proofs.LoopLaws.{sum-next, sum-ended}
 use Rattle.model.specs.declared.Layout.{Layout}
 use Rattle.model.specs.Words.{problemOf}
@@ -17,10 +17,10 @@ use Rattle.instance.specs.Filed.{Filed}
 use Rattle.overhaul.proofs.SpanLaws.{span-sum}
 
 -- one more week
-pub upkeep-next : (ws : List ℕ) (i a k s v r : ℕ) → s ≡ sumTo k (shifted a (turned (problemOf ws .maint) i)) → v ≡ problemOf ws .maint (a + k) i
-    → r ≡ s + v → r ≡ sumTo (k + 1) (shifted a (turned (problemOf ws .maint) i))
-unfolding shifted turned
-upkeep-next ws i a k s v r = sum-next (shifted a (turned (problemOf ws .maint) i)) k s v r
+pub upkeep-next : (ws : List ℕ) (i a k s v r : ℕ) → s ≡ sumTo k (shifted a (transposed (problemOf ws .maint) i)) → v ≡ problemOf ws .maint (a + k) i
+    → r ≡ s + v → r ≡ sumTo (k + 1) (shifted a (transposed (problemOf ws .maint) i))
+unfolding shifted transposed
+upkeep-next ws i a k s v r = sum-next (shifted a (transposed (problemOf ws .maint) i)) k s v r
 
 module _ (ws : List ℕ) (l : Layout) (i start : ℕ) (f : Filed ws l) (h : i < l .units) (e : permitted (problemOf ws) i start ≡ true) where
   -- starts count from 1
@@ -35,13 +35,13 @@ module _ (ws : List ℕ) (l : Layout) (i start : ℕ) (f : Filed ws l) (h : i < 
 
   -- all its weeks
   pub upkeep-ended : (k d r : ℕ) → d ≡ problemOf ws .duration i → k ≤ d → d ≤ k
-      → r ≡ sumTo k (shifted (start - 1) (turned (problemOf ws .maint) i)) → r ≡ upkeep (problemOf ws) i start
+      → r ≡ sumTo k (shifted (start - 1) (transposed (problemOf ws .maint) i)) → r ≡ upkeep (problemOf ws) i start
   unfolding upkeep
   upkeep-ended k d r is m n t =
       let p = problemOf ws in
       let s : start ≡ suc (start - 1) = omega (arith, start-some) in
       let b : start - 1 + p .duration i ≤ p .weeks = omega (arith, ends-within d is) in
-      sum-ended (shifted (start - 1) (turned (p .maint) i)) k d r t m n
-      ∙ ap (λ (z : ℕ). sumTo z (shifted (start - 1) (turned (p .maint) i))) is
-      ∙ sym (span-sum (start - 1) (p .duration i) (turned (p .maint) i) (p .weeks) b)
+      sum-ended (shifted (start - 1) (transposed (p .maint) i)) k d r t m n
+      ∙ ap (λ (z : ℕ). sumTo z (shifted (start - 1) (transposed (p .maint) i))) is
+      ∙ sym (span-sum (start - 1) (p .duration i) (transposed (p .maint) i) (p .weeks) b)
       ∙ ap (λ (z : ℕ). upkeep p i z) (sym s)

@@ -2,10 +2,11 @@
 // nothing of its own: `intake::plan_output` says what is printed.
 use libc::STDIN_FILENO;
 use libc::STDOUT_FILENO;
+use report::TEXT;
 
 // Prints the text for an input.
 fn answer(bytes: &[u8]) {
-    let mut text = [0u8; 65536];
+    let mut text = [0u8; TEXT];
     let n = intake::plan_output(bytes, &mut text);
     io::write_all(STDOUT_FILENO, &text[..n]);
 }

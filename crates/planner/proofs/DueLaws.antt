@@ -22,16 +22,16 @@ use Rattle.search.specs.Walk.{Walking}
 use Rattle.search.specs.Ask.{AskDue, Asked}
 use Rattle.asks.specs.Admitted.{Admitted}
 use Rattle.block.specs.Block.{putAt}
-use Rattle.planner.specs.declared.Memory.{Memory}
-use Rattle.planner.specs.Memory.{SaysNothing, SaysNone, withUsed, Remembered}
+use Rattle.planner.specs.declared.Carry.{Carry}
+use Rattle.planner.specs.Carry.{SaysNothing, SaysNone, withUsed, Remembered}
 use Rattle.planner.specs.Going.{Turned}
-use Rattle.planner.specs.Due.{ReplyDue, Told, PutDue, TurnPut, TurnDue, Runs}
-use Rattle.planner.proofs.MemoryLaws.{replied-none, replied-again, replied-solved}
-use Rattle.planner.proofs.GoingLaws.{ask-placed, turned, going-start, going-ready, going-answered, admitted-still}
+use Rattle.planner.specs.Due.{ReplyDue, Told, PutDue, TurnPut, TurnDue, RunDue}
+use Rattle.planner.proofs.CarryLaws.{replied-none, replied-again, replied-solved}
+use Rattle.planner.proofs.GoingLaws.{ask-placed, transposed, going-start, going-ready, going-answered, admitted-still}
 
 -- ---- one ask
 
-module _ (ws : List ℕ) (l : Layout) (us asks : List ℕ) (k : ℕ) (m : Memory) (w memo : List ℕ) (d : ReplyDue ws l us asks k m w memo) where
+module _ (ws : List ℕ) (l : Layout) (us asks : List ℕ) (k : ℕ) (m : Carry) (w memo : List ℕ) (d : ReplyDue ws l us asks k m w memo) where
   -- its number is small
   pub reply-few : k < 32
   unfolding ReplyDue
@@ -62,7 +62,7 @@ module _ (ws : List ℕ) (l : Layout) (us asks : List ℕ) (k : ℕ) (m : Memory
     told-asks small = record { walking = d .walking; ceiled = small; room = d .ready .room; held = d .ready .held }
 
     pub told-solved : (budget : ℕ) (w′ memo′ : List ℕ) (r : Reply) → budget ≡ budgetAt asks k → m .least .0 ≤ ceiling → m .known ≡ false
-        → Asked (problemOf ws) ceiling budget w (m .used) w′ r → relaxed.Recalls (problemOf ws) (priceIn us) memo′ → Told ws l us asks k m w w′ memo′ r
+        → Asked (problemOf ws) ceiling budget w (m .used) w′ r → relaxed.MemoTrue (problemOf ws) (priceIn us) memo′ → Told ws l us asks k m w w′ memo′ r
     unfolding ReplyDue Told
     told-solved budget w′ memo′ r b least known asked recalls = record {
       replied = replied-solved (problemOf ws) (ceilingAt asks k) (budgetAt asks k) m w (d .ready) r w′ (omega arith) known
@@ -73,11 +73,11 @@ module _ (ws : List ℕ) (l : Layout) (us asks : List ℕ) (k : ℕ) (m : Memory
     }
 
 -- the block was put, and is remembered
-pub turn-put : (l : Layout) (asks : List ℕ) (k ceiling : ℕ) (m : Memory) (told : Reply) (answers answers′ : List ℕ) (m′ : Memory)
+pub turn-put : (l : Layout) (asks : List ℕ) (k ceiling : ℕ) (m : Carry) (told : Reply) (answers answers′ : List ℕ) (m′ : Carry)
     → ceiling ≡ ceilingAt asks k → answers′ ≡ putAt l k told answers → Remembered m ceiling told m′ → TurnPut l asks k m told answers answers′ m′
 turn-put l asks k ceiling m told answers answers′ m′ e put kept = record { put = put; kept = subst (λ (n : ℕ). Remembered m n told m′) e kept }
 
-module _ (ws : List ℕ) (l : Layout) (us asks : List ℕ) (k : ℕ) (m : Memory) (n : ℕ) (w memo : List ℕ) (d : TurnDue ws l us asks k m n w memo) where
+module _ (ws : List ℕ) (l : Layout) (us asks : List ℕ) (k : ℕ) (m : Carry) (n : ℕ) (w memo : List ℕ) (d : TurnDue ws l us asks k m n w memo) where
   -- what its reply asks
   pub turn-replies : ReplyDue ws l us asks k m w memo
   unfolding TurnDue ReplyDue
@@ -94,26 +94,26 @@ module _ (ws : List ℕ) (l : Layout) (us asks : List ℕ) (k : ℕ) (m : Memory
     }
 
 -- it is one ask more
-pub turn-done : (ws : List ℕ) (l : Layout) (us asks : List ℕ) (k : ℕ) (m : Memory) (w w′ memo : List ℕ) (r : Reply) (answers answers′ : List ℕ)
-    (m′ : Memory) → Told ws l us asks k m w w′ memo r → TurnPut l asks k m r answers answers′ m′
+pub turn-done : (ws : List ℕ) (l : Layout) (us asks : List ℕ) (k : ℕ) (m : Carry) (w w′ memo : List ℕ) (r : Reply) (answers answers′ : List ℕ)
+    (m′ : Carry) → Told ws l us asks k m w w′ memo r → TurnPut l asks k m r answers answers′ m′
     → Turned (problemOf ws) asks answers w m k answers′ w′ m′
 unfolding Told
 turn-done ws l us asks k m w w′ memo r answers answers′ m′ told put =
-    turned ws asks l k (told .filed) answers answers′ w w′ m m′ r (told .replied) (put .put) (put .kept)
+    transposed ws asks l k (told .filed) answers answers′ w w′ m m′ r (told .replied) (put .put) (put .kept)
 
--- the memory recalls
-pub told-recalls : (ws : List ℕ) (l : Layout) (us asks : List ℕ) (k : ℕ) (m : Memory) (w w′ memo : List ℕ) (r : Reply) → Told ws l us asks k m w w′ memo r
-    → relaxed.Recalls (problemOf ws) (priceIn us) memo
+-- the memo recalls
+pub told-recalls : (ws : List ℕ) (l : Layout) (us asks : List ℕ) (k : ℕ) (m : Carry) (w w′ memo : List ℕ) (r : Reply) → Told ws l us asks k m w w′ memo r
+    → relaxed.MemoTrue (problemOf ws) (priceIn us) memo
 unfolding Told
 told-recalls ws l us asks k m w w′ memo r h = h .recalls
 
 -- ---- a run
 
-module _ (ws : List ℕ) (l : Layout) (us asks lent table₀ answers table : List ℕ) (m : Memory) (k : ℕ) (memo : List ℕ)
-    (h : Runs ws l us asks lent table₀ answers table m k memo) where
+module _ (ws : List ℕ) (l : Layout) (us asks lent table₀ answers table : List ℕ) (m : Carry) (k : ℕ) (memo : List ℕ)
+    (h : RunDue ws l us asks lent table₀ answers table m k memo) where
   -- the next ask
   pub runs-turn : (n : ℕ) → n ≡ length asks / 2 → k < n → TurnDue ws l us asks k m (length answers) table memo
-  unfolding Runs TurnDue askCount
+  unfolding RunDue TurnDue askCount
   runs-turn n e less =
       let ok = admitted-still ws l asks (length table₀) (length lent) (length table) (length answers) (h .admitted) (h .long) (h .room) in
       let few : k < 32 = omega (arith, ok .few) in
@@ -129,14 +129,14 @@ module _ (ws : List ℕ) (l : Layout) (us asks lent table₀ answers table : Lis
 
   -- its number fits a word
   pub runs-fit : (n : ℕ) → n ≡ length asks / 2 → k < n → k + 1 < 18446744073709551616
-  unfolding Runs askCount
+  unfolding RunDue askCount
   runs-fit n e less = omega (arith, h .admitted .few)
 
   -- it was answered
-  pub runs-next : (answers′ table′ : List ℕ) (m′ : Memory) (memo′ : List ℕ) → Turned (problemOf ws) asks answers table m k answers′ table′ m′
-      → relaxed.Recalls (problemOf ws) (priceIn us) memo′ → length answers′ ≡ length answers → length table′ ≡ length table
-      → Runs ws l us asks lent table₀ answers′ table′ m′ (k + 1) memo′
-  unfolding Runs
+  pub runs-next : (answers′ table′ : List ℕ) (m′ : Carry) (memo′ : List ℕ) → Turned (problemOf ws) asks answers table m k answers′ table′ m′
+      → relaxed.MemoTrue (problemOf ws) (priceIn us) memo′ → length answers′ ≡ length answers → length table′ ≡ length table
+      → RunDue ws l us asks lent table₀ answers′ table′ m′ (k + 1) memo′
+  unfolding RunDue
   runs-next answers′ table′ m′ memo′ turn recalls ea et = record {
     admitted = h .admitted;
     walking = record { filed = h .walking .filed; dual = h .walking .dual; recalls = recalls };
@@ -147,17 +147,17 @@ module _ (ws : List ℕ) (l : Layout) (us asks lent table₀ answers table : Lis
 
   -- all of them
   pub runs-ended : (n : ℕ) → n ≡ length asks / 2 → k ≤ n → n ≤ k → Answered (problemOf ws) asks lent answers table
-  unfolding Runs
+  unfolding RunDue
   runs-ended n e a b = going-answered (problemOf ws) asks lent answers table m k n (h .going) a b e
 
   pub runs-long : length table ≡ length table₀
-  unfolding Runs
+  unfolding RunDue
   runs-long = h .long
 
 -- before the first ask, with an emptied table
-pub runs-start : (ws : List ℕ) (l : Layout) (us asks answers table : List ℕ) (m : Memory) (memo : List ℕ) → Admitted ws l asks (length table) (length answers)
-    → table ≡ replicate (length table) 0 → SaysNothing m → Walking ws l us memo → Runs ws l us asks answers table answers table m 0 memo
-unfolding Runs
+pub runs-start : (ws : List ℕ) (l : Layout) (us asks answers table : List ℕ) (m : Carry) (memo : List ℕ) → Admitted ws l asks (length table) (length answers)
+    → table ≡ replicate (length table) 0 → SaysNothing m → Walking ws l us memo → RunDue ws l us asks answers table answers table m 0 memo
+unfolding RunDue
 runs-start ws l us asks answers table m memo ok none says walking = record {
   admitted = ok;
   walking = walking;
@@ -169,15 +169,15 @@ runs-start ws l us asks answers table m memo ok none says walking = record {
 -- ---- the table of a walk
 
 module _ (ws : List ℕ) (l : Layout) (memo : List ℕ) (f : Filed ws l) (none : memo ≡ replicate (length memo) 0) where
-  -- an emptied memory is right
+  -- an emptied memo is right
   pub emptied-right : Right (problemOf ws) memo
   emptied-right = right-empty (problemOf ws) memo (length memo) none
 
   -- and recalls at any prices, also after least costs were kept in it
-  pub emptied-recalls : (us memo′ : List ℕ) → Right (problemOf ws) memo′ → Others memo memo′ → relaxed.Recalls (problemOf ws) (priceIn us) memo′
+  pub emptied-recalls : (us memo′ : List ℕ) → Right (problemOf ws) memo′ → Others memo memo′ → relaxed.MemoTrue (problemOf ws) (priceIn us) memo′
   emptied-recalls us memo′ right others =
       recalls-others (problemOf ws) (priceIn us) memo memo′ (recalls-empty (problemOf ws) (priceIn us) memo (length memo) none) right others
 
   -- with all parts it is ready for walks
-  pub walking-of : (us memo′ : List ℕ) → Dual (problemOf ws) us → relaxed.Recalls (problemOf ws) (priceIn us) memo′ → Walking ws l us memo′
+  pub walking-of : (us memo′ : List ℕ) → Dual (problemOf ws) us → relaxed.MemoTrue (problemOf ws) (priceIn us) memo′ → Walking ws l us memo′
   walking-of us memo′ dual recalls = record { filed = f; dual = dual; recalls = recalls }

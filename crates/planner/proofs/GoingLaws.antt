@@ -28,19 +28,20 @@ use Rattle.nogood.specs.Stock.{Stock, Grown}
 use Rattle.nogood.proofs.StockLaws.{stock-none}
 use Rattle.search.specs.declared.Reply.{Reply}
 use Rattle.search.specs.Ask.{answerOf}
+use Rattle.shape.specs.Shape as shape
 use Rattle.asks.specs.Admitted.{Admitted}
 use Rattle.block.specs.Block.{blockWord, Placed, putAt}
 use Rattle.block.proofs.ListedLaws.{block-listed}
-use Rattle.planner.specs.declared.Memory.{Memory}
-use Rattle.planner.specs.Memory.{settledBy, Recalls, Ready, SaysNothing, Replied, Remembered}
+use Rattle.planner.specs.declared.Carry.{Carry}
+use Rattle.planner.specs.Carry.{settledBy, Remembers, AskReady, SaysNothing, Replied, Remembered}
 use Rattle.planner.specs.Going.{Going, Turned}
 use Rattle.planner.proofs.TurnLaws.{knows-next, recalls-old, recalls-new, follows-new, settled-next}
 
 -- ---- one ask more
 
-module _ (p : Problem) (asks lent answers table : List ℕ) (m : Memory) (k : ℕ) (going : Going p asks lent answers table m k)
+module _ (p : Problem) (asks lent answers table : List ℕ) (m : Carry) (k : ℕ) (going : Going p asks lent answers table m k)
     (table′ : List ℕ) (r : Reply) (replied : Replied p (ceilingAt asks k) (budgetAt asks k) m table table′ r)
-    (m′ : Memory) (kept : Remembered m (ceilingAt asks k) r m′) where
+    (m′ : Carry) (kept : Remembered m (ceilingAt asks k) r m′) where
   abbrev a : Answer
   a = answerOf p r
 
@@ -151,7 +152,7 @@ module _ (p : Problem) (asks lent answers table : List ℕ) (m : Memory) (k : �
             );
         knows = knows-next p c b m table table′ r (going .knows) replied m′ a refl (replied .correct) (kept .keeps p);
         recalls =
-            one-more (λ (i : ℕ) (x : Answer). Recalls p m′ (ceilingAt asks i) x)
+            one-more (λ (i : ℕ) (x : Answer). Remembers p m′ (ceilingAt asks i) x)
             (λ i l. recalls-old p c b m table table′ r (going .knows) replied m′ a refl (replied .correct) (kept .keeps p) (ceilingAt asks i)
             (answerAt (going .told) i) (going .recalls i l))
             (recalls-new p c b m table table′ r (going .knows) replied m′ a refl (kept .keeps p));
@@ -162,7 +163,7 @@ module _ (ws asks : List ℕ) (l : Layout) (k lent room : ℕ) (ok : Admitted ws
   -- there is room for its block
   pub ask-placed : Placed l k room
   ask-placed =
-      let size = 2 + 2 * l .units + l .weeks in
+      let size = shape.blockSize (l .units) (l .weeks) in
       let upto : k + 1 ≤ askCount asks = omega arith in
       let all : (k + 1) * size ≤ askCount asks * size = mul-le-mul-right size upto in
       record {
@@ -173,11 +174,11 @@ module _ (ws asks : List ℕ) (l : Layout) (k lent room : ℕ) (ok : Admitted ws
       }
 
 -- answered in its block
-pub turned : (ws asks : List ℕ) (l : Layout) (k : ℕ) → Filed ws l → (answers answers′ table table′ : List ℕ) (m m′ : Memory) (r : Reply)
+pub transposed : (ws asks : List ℕ) (l : Layout) (k : ℕ) → Filed ws l → (answers answers′ table table′ : List ℕ) (m m′ : Carry) (r : Reply)
     → Replied (problemOf ws) (ceilingAt asks k) (budgetAt asks k) m table table′ r → answers′ ≡ putAt l k r answers
     → Remembered m (ceilingAt asks k) r m′ → Turned (problemOf ws) asks answers table m k answers′ table′ m′
 unfolding blockSize putAt
-turned ws asks l k f answers answers′ table table′ m m′ r replied put kept = record {
+transposed ws asks l k f answers answers′ table table′ m m′ r replied put kept = record {
   next = λ start going.
       going-next p asks start answers table m k going table′ r replied m′ kept (k * blockSize p) answers′ (place start going) words;
 }
@@ -188,7 +189,7 @@ turned ws asks l k f answers answers′ table table′ m m′ r replied put kept
     words : answers′ ≡ spliced (k * blockSize p) (blockOf p (answerOf p r)) answers
     words =
         put
-        ∙ ap₂ (λ (u w : ℕ). spliced (k * (2 + 2 * u + w)) (listTo (2 + 2 * u + w) (blockWord u w r)) answers) (sym (f .units-are)) (sym (f .weeks-are))
+        ∙ ap₂ (λ (u w : ℕ). spliced (k * shape.blockSize u w) (listTo (shape.blockSize u w) (blockWord u w r)) answers) (sym (f .units-are)) (sym (f .weeks-are))
         ∙ ap (λ (bs : List ℕ). spliced (k * blockSize p) bs answers) (block-listed p (ceilingAt asks k) (budgetAt asks k) r (replied .correct))
 
     place : (start : List ℕ) (going : Going p asks start answers table m k) → k * blockSize p ≡ length (blocksOf p (going .told))
@@ -199,7 +200,7 @@ turned ws asks l k f answers answers′ table table′ m m′ r replied put kept
 -- ---- before the first ask
 
 -- nothing is known on an emptied table
-pub going-start : (p : Problem) (asks lent table : List ℕ) (m : Memory) (n : ℕ) → table ≡ replicate n 0 → SaysNothing m → Going p asks lent lent
+pub going-start : (p : Problem) (asks lent table : List ℕ) (m : Carry) (n : ℕ) → table ≡ replicate n 0 → SaysNothing m → Going p asks lent lent
     table m 0
 unfolding flatten someTo settledBy blocksOf
 going-start p asks lent table m n e h = record {
@@ -225,9 +226,9 @@ going-start p asks lent table m n e h = record {
 -- ---- between two asks
 
 -- what the next ask wants is there
-pub going-ready : (p : Problem) (asks lent answers table : List ℕ) (m : Memory) (k : ℕ) → Going p asks lent answers table m k → k < 32 → 64 ≤ length
+pub going-ready : (p : Problem) (asks lent answers table : List ℕ) (m : Carry) (k : ℕ) → Going p asks lent answers table m k → k < 32 → 64 ≤ length
     table
-    → Ready p table m
+    → AskReady p table m
 going-ready p asks lent answers table m k h l g = record {
   knows = h .knows;
   held = record { nogoods = flatten (h .left); stock = h .stock };
@@ -237,7 +238,7 @@ going-ready p asks lent answers table m k h l g = record {
 -- ---- after the last
 
 -- all asks are answered: demand 3
-pub going-answered : (p : Problem) (asks lent answers table : List ℕ) (m : Memory) (k n : ℕ) → Going p asks lent answers table m k → k ≤ n → n ≤ k
+pub going-answered : (p : Problem) (asks lent answers table : List ℕ) (m : Carry) (k n : ℕ) → Going p asks lent answers table m k → k ≤ n → n ≤ k
     → n ≡ length asks / 2 → Answered p asks lent answers table
 unfolding askCount
 going-answered p asks lent answers table m k n h l g e =
@@ -254,7 +255,7 @@ going-answered p asks lent answers table m k n h l g e =
       leaves = λ i b. h .leaves i (omega arith);
     }
 
--- ---- the lent memory keeps its lengths
+-- ---- the lent words keep their lengths
 
 -- what a run has that was not turned away, it has all along
 pub admitted-still : (ws : List ℕ) (l : Layout) (asks : List ℕ) (t n t′ n′ : ℕ) → Admitted ws l asks t n → t′ ≡ t → n′ ≡ n → Admitted ws l asks t′ n′

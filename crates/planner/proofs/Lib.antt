@@ -1,5 +1,5 @@
 -- one ask: what it is told, and what is remembered of it
-pub mod MemoryLaws
+pub mod CarryLaws
 -- one ask after the others
 pub mod TurnLaws
 -- a run before the first ask, after one more, and after all

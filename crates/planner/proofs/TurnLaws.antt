@@ -1,4 +1,4 @@
--- One ask after the others: what the memory says of them, the new one included, and the run's claim for one ask more.
+-- One ask after the others: what the carry says of them, the new one included, and the run's claim for one ask more.
 -- Assumes nothing.
 use Prim.Native.Nat.{ℕ, _+_, _≤_, _<_, max}
 use mathlib.Core.Path.{_≡_, refl, sym, _∙_, ap, ap₂, subst}
@@ -17,9 +17,9 @@ use Rattle.model.specs.Asks.{Follows, settles}
 use Rattle.search.specs.declared.Reply.{Reply}
 use Rattle.search.specs.Walk.{AllSettled}
 use Rattle.search.specs.Ask.{answerOf}
-use Rattle.planner.specs.declared.Memory.{Memory}
-use Rattle.planner.specs.Memory.{Known, Knows, settledBy, Recalls, Replied, Keeps}
-use Rattle.planner.proofs.MemoryLaws.{found-under}
+use Rattle.planner.specs.declared.Carry.{Carry}
+use Rattle.planner.specs.Carry.{PlanKnown, Knows, settledBy, Remembers, Replied, Keeps}
+use Rattle.planner.proofs.CarryLaws.{found-under}
 
 -- ---- answers
 
@@ -42,10 +42,10 @@ plan-not-none : {A : Type 0} (k : ℕ) (ss rs : List ℕ) → optimal k ss rs �
 unfolding statusIn
 plan-not-none k ss rs e = let z : _≡_ {A = ℕ} 1 2 = ap statusIn e in absurd (omega arith)
 
--- ---- the memory after an answer
+-- ---- the carry after an answer
 
-module _ (p : Problem) (ceiling budget : ℕ) (m : Memory) (w w′ : List ℕ) (r : Reply) (knows : Knows p m) (told : Replied p ceiling budget m w w′ r)
-    (m′ : Memory) where
+module _ (p : Problem) (ceiling budget : ℕ) (m : Carry) (w w′ : List ℕ) (r : Reply) (knows : Knows p m) (told : Replied p ceiling budget m w w′ r)
+    (m′ : Carry) where
   -- where a plan is known, none is told below its cost alone
   none-below : answerOf p r ≡ infeasible → m .known ≡ true → ceiling < m .least .0
   none-below e k =
@@ -53,7 +53,7 @@ module _ (p : Problem) (ceiling budget : ℕ) (m : Memory) (w w′ : List ℕ) (
       (λ (g : m .least .0 ≤ ceiling). plan-not-none (m .least .0) (plan .starts) (plan .runs) (sym (plan .is) ∙ (sym (told .again k g) ∙ e)))
       (lt-or-ge ceiling (m .least .0))
     where
-      plan : Known p m
+      plan : PlanKnown p m
       plan = knows .plan k
 
   -- a known plan is told again
@@ -61,7 +61,7 @@ module _ (p : Problem) (ceiling budget : ℕ) (m : Memory) (w w′ : List ℕ) (
   plan-again k ss rs e g =
       ⊎-elim (λ (l : ceiling < m .least .0). plan-not-none k ss rs (sym e ∙ told .below l)) (told .again g) (lt-or-ge ceiling (m .least .0))
 
-  -- the same memory, but for the words used
+  -- the same carry, but for the words used
   knows-same : (m′ .known ≡ m .known) × (m′ .least .0 ≡ m .least .0) × (m′ .plan ≡ m .plan) → Knows p m′
   knows-same e = record {
     least = subst (AllSettled p) (sym (e .1)) (knows .least);
@@ -69,7 +69,7 @@ module _ (p : Problem) (ceiling budget : ℕ) (m : Memory) (w w′ : List ℕ) (
     small = omega (arith, ap (λ (x : Reply). x .state .limit .0) (e .2), knows .small);
   }
     where
-      go : Known p m → Known p m′
+      go : PlanKnown p m → PlanKnown p m′
       go h = record {
         starts = h .starts;
         runs = h .runs;
@@ -101,14 +101,14 @@ module _ (p : Problem) (ceiling budget : ℕ) (m : Memory) (w w′ : List ℕ) (
           (λ (g : ceiling + 1 ≤ cost p s). omega (arith, h .1, knows .least .costs s d))
           (lt-or-ge (cost p s) (ceiling + 1))
 
-      kept : ceiling < m .least .0 → m′ .known ≡ true → Known p m′
+      kept : ceiling < m .least .0 → m′ .known ≡ true → PlanKnown p m′
       kept l g = knows-same (h .0, omega (arith, h .1), h .2) .plan g
   knows-next (incumbent k ss rs mark) e c h = knows-same h
   knows-next (unknown mark) e c h = knows-same h
 
   -- what was told before is still in it
   recalls-same : (m′ .known ≡ m .known) → m .least .0 ≤ m′ .least .0 → (m′ .plan ≡ m .plan) → (c : ℕ)
-      (b : Answer) → Recalls p m c b → Recalls p m′ c b
+      (b : Answer) → Remembers p m c b → Remembers p m′ c b
   recalls-same k l q c (optimal n ss rs) g = (k ∙ g .0, ap (answerOf p) q ∙ g .1)
   recalls-same k l q c infeasible g = omega arith
   recalls-same k l q c (incumbent n ss rs mark) g = tt
@@ -116,29 +116,29 @@ module _ (p : Problem) (ceiling budget : ℕ) (m : Memory) (w w′ : List ℕ) (
 
   recalls-plan : (n : ℕ) (ss rs : List ℕ) → answerOf p r ≡ optimal n ss rs → Found p ceiling Everywhere n ss rs → Keeps m ceiling r m′
       (optimal n ss rs)
-      → (c : ℕ) (b : Answer) → Recalls p m c b → Recalls p m′ c b
+      → (c : ℕ) (b : Answer) → Remembers p m c b → Remembers p m′ c b
   recalls-plan n ss rs e f h c (optimal k xs ys) g = (h .0, ap (answerOf p) (h .2) ∙ plan-again n ss rs e (g .0) ∙ g .1)
   recalls-plan n ss rs e f h c infeasible g =
       omega (arith, h .1, f .costs, knows .least .costs (scheduleOf ss rs) (f .best .allowed .sound))
   recalls-plan n ss rs e f h c (incumbent k xs ys mark) g = tt
   recalls-plan n ss rs e f h c (unknown mark) g = tt
 
-  pub recalls-old : (a : Answer) → answerOf p r ≡ a → Correct p ceiling budget a → Keeps m ceiling r m′ a → (c : ℕ) (b : Answer) → Recalls p m c b
-      → Recalls p m′ c b
+  pub recalls-old : (a : Answer) → answerOf p r ≡ a → Correct p ceiling budget a → Keeps m ceiling r m′ a → (c : ℕ) (b : Answer) → Remembers p m c b
+      → Remembers p m′ c b
   recalls-old (optimal k ss rs) e f h = recalls-plan k ss rs e f h
   recalls-old infeasible e f h = let l : m .least .0 ≤ m′ .least .0 = omega (arith, h .1) in recalls-same (h .0) l (h .2)
   recalls-old (incumbent k ss rs mark) e f h = let l : m .least .0 ≤ m′ .least .0 = omega (arith, h .1) in recalls-same (h .0) l (h .2)
   recalls-old (unknown mark) e f h = let l : m .least .0 ≤ m′ .least .0 = omega (arith, h .1) in recalls-same (h .0) l (h .2)
 
   -- and so is the answer
-  pub recalls-new : (a : Answer) → answerOf p r ≡ a → Keeps m ceiling r m′ a → Recalls p m′ ceiling a
+  pub recalls-new : (a : Answer) → answerOf p r ≡ a → Keeps m ceiling r m′ a → Remembers p m′ ceiling a
   recalls-new (optimal k ss rs) e h = (h .0, ap (answerOf p) (h .2) ∙ e)
   recalls-new infeasible e h = omega (arith, h .1)
   recalls-new (incumbent k ss rs mark) e h = tt
   recalls-new (unknown mark) e h = tt
 
   -- the answer follows from what was told before
-  pub follows-new : (c : ℕ) (b : Answer) → Recalls p m c b → Follows c b ceiling (answerOf p r)
+  pub follows-new : (c : ℕ) (b : Answer) → Remembers p m c b → Follows c b ceiling (answerOf p r)
   unfolding costIn
   follows-new c (optimal k ss rs) g = (λ l. told .again (g .0) (omega (arith, same)) ∙ g .1, λ l. told .below (omega (arith, same)))
     where
@@ -154,7 +154,7 @@ module _ (p : Problem) (ceiling budget : ℕ) (m : Memory) (w w′ : List ℕ) (
   unfolding settledBy
   settled-same d k l = or-last-false (m .known || ltb d (m .least .0)) ∙ ap₂ (λ (x : Bool) (n : ℕ). x || ltb d n) (sym k) (sym l)
 
-  -- an ask under d is settled by the memory or by none at the ceiling
+  -- an ask under d is settled by the carry or by none at the ceiling
   settled-none : (d : ℕ) (k : Bool) → ((k || ltb d (m .least .0)) || leb d ceiling) ≡ (k || ltb d (max (m .least .0) (ceiling + 1)))
   settled-none d true = refl
   settled-none d false =

@@ -15,28 +15,28 @@ use Rattle.search.specs.declared.Reply.{Reply}
 use Rattle.search.specs.Walk.{Walking}
 use Rattle.asks.specs.Admitted.{Admitted}
 use Rattle.block.specs.Block.{Placed, putAt}
-use Rattle.planner.specs.declared.Memory.{Memory}
-use Rattle.planner.specs.Memory.{Ready, Replied, Remembered}
+use Rattle.planner.specs.declared.Carry.{Carry}
+use Rattle.planner.specs.Carry.{AskReady, Replied, Remembered}
 use Rattle.planner.specs.Going.{Going}
 
 -- ---- one ask
 
 -- ask k is to be told
-pub record ReplyNeeds (ws : List ℕ) (l : Layout) (us asks : List ℕ) (k : ℕ) (m : Memory) (w memo : List ℕ) : Type 0 where
+pub record ReplyNeeds (ws : List ℕ) (l : Layout) (us asks : List ℕ) (k : ℕ) (m : Carry) (w memo : List ℕ) : Type 0 where
   pub walking : Walking ws l us memo
   pub few : k < 32
-  pub ready : Ready (problemOf ws) w m
+  pub ready : AskReady (problemOf ws) w m
 
-unfoldable pub ReplyDue : (ws : List ℕ) → Layout → (us asks : List ℕ) → ℕ → Memory → (w memo : List ℕ) → Type 0
+unfoldable pub ReplyDue : (ws : List ℕ) → Layout → (us asks : List ℕ) → ℕ → Carry → (w memo : List ℕ) → Type 0
 ReplyDue ws l us asks k m w memo = ReplyNeeds ws l us asks k m w memo
 
 -- it was told
-pub record ReplyTold (ws : List ℕ) (l : Layout) (us asks : List ℕ) (k : ℕ) (m : Memory) (w w′ memo : List ℕ) (r : Reply) : Type 0 where
+pub record ReplyTold (ws : List ℕ) (l : Layout) (us asks : List ℕ) (k : ℕ) (m : Carry) (w w′ memo : List ℕ) (r : Reply) : Type 0 where
   pub filed : Filed ws l
   pub replied : Replied (problemOf ws) (ceilingAt asks k) (budgetAt asks k) m w w′ r
-  pub recalls : relaxed.Recalls (problemOf ws) (priceIn us) memo
+  pub recalls : relaxed.MemoTrue (problemOf ws) (priceIn us) memo
 
-unfoldable pub Told : (ws : List ℕ) → Layout → (us asks : List ℕ) → ℕ → Memory → (w w′ memo : List ℕ) → Reply → Type 0
+unfoldable pub Told : (ws : List ℕ) → Layout → (us asks : List ℕ) → ℕ → Carry → (w w′ memo : List ℕ) → Reply → Type 0
 Told ws l us asks k m w w′ memo r = ReplyTold ws l us asks k m w w′ memo r
 
 -- its block is to be put
@@ -46,28 +46,28 @@ pub record PutDue (l : Layout) (asks : List ℕ) (k : ℕ) (told : Reply) (room 
   pub small : told .state .limit .0 ≤ MOST_LIMIT
 
 -- it was put, and is remembered
-pub record TurnPut (l : Layout) (asks : List ℕ) (k : ℕ) (m : Memory) (told : Reply) (answers answers′ : List ℕ) (m′ : Memory) : Type 0 where
+pub record TurnPut (l : Layout) (asks : List ℕ) (k : ℕ) (m : Carry) (told : Reply) (answers answers′ : List ℕ) (m′ : Carry) : Type 0 where
   pub put : answers′ ≡ putAt l k told answers
   pub kept : Remembered m (ceilingAt asks k) told m′
 
 -- ask k is to be answered, in so many words of answers
-pub record TurnNeeds (ws : List ℕ) (l : Layout) (us asks : List ℕ) (k : ℕ) (m : Memory) (room : ℕ) (w memo : List ℕ) : Type 0 where
+pub record TurnNeeds (ws : List ℕ) (l : Layout) (us asks : List ℕ) (k : ℕ) (m : Carry) (room : ℕ) (w memo : List ℕ) : Type 0 where
   pub admitted : Admitted ws l asks (length w) room
   pub less : k < askCount asks
   pub due : ReplyNeeds ws l us asks k m w memo
 
-unfoldable pub TurnDue : (ws : List ℕ) → Layout → (us asks : List ℕ) → ℕ → Memory → ℕ → (w memo : List ℕ) → Type 0
+unfoldable pub TurnDue : (ws : List ℕ) → Layout → (us asks : List ℕ) → ℕ → Carry → ℕ → (w memo : List ℕ) → Type 0
 TurnDue ws l us asks k m room w memo = TurnNeeds ws l us asks k m room w memo
 
 -- ---- a run
 
 -- a run with answers and a table as they were lent, after its first k asks
-pub record Running (ws : List ℕ) (l : Layout) (us asks lent table₀ answers table : List ℕ) (m : Memory) (k : ℕ) (memo : List ℕ) : Type 0 where
+pub record Running (ws : List ℕ) (l : Layout) (us asks lent table₀ answers table : List ℕ) (m : Carry) (k : ℕ) (memo : List ℕ) : Type 0 where
   pub admitted : Admitted ws l asks (length table₀) (length lent)
   pub walking : Walking ws l us memo
   pub going : Going (problemOf ws) asks lent answers table m k
   pub long : length table ≡ length table₀
   pub room : length answers ≡ length lent
 
-unfoldable pub Runs : (ws : List ℕ) → Layout → (us asks lent table₀ answers table : List ℕ) → Memory → ℕ → (memo : List ℕ) → Type 0
-Runs ws l us asks lent table₀ answers table m k memo = Running ws l us asks lent table₀ answers table m k memo
+unfoldable pub RunDue : (ws : List ℕ) → Layout → (us asks lent table₀ answers table : List ℕ) → Carry → ℕ → (memo : List ℕ) → Type 0
+RunDue ws l us asks lent table₀ answers table m k memo = Running ws l us asks lent table₀ answers table m k memo

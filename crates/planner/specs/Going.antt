@@ -1,4 +1,4 @@
--- A run after some of its asks: demand 3 for those, with what the memory says of each (document 01, "A run of asks").
+-- A run after some of its asks: demand 3 for those, with what the carry says of each (document 01, "A run of asks").
 -- Assumes nothing.
 use Prim.Native.Nat.{ℕ, _+_, _-_, _≤_, _<_}
 use mathlib.Core.Path.{_≡_}
@@ -10,11 +10,11 @@ use Rattle.model.specs.Nogood.{Nogood}
 use Rattle.model.specs.Answer.{Answer, Correct, blocksOf}
 use Rattle.model.specs.Asks.{ceilingAt, budgetAt, answerAt, Follows, settles, settled, Leaves, leftAt}
 use Rattle.nogood.specs.Stock.{Stock}
-use Rattle.planner.specs.declared.Memory.{Memory}
-use Rattle.planner.specs.Memory.{Knows, settledBy, Recalls}
+use Rattle.planner.specs.declared.Carry.{Carry}
+use Rattle.planner.specs.Carry.{Knows, settledBy, Remembers}
 
--- the first k asks are answered in the words `answers`, which were lent as `lent`; the table and the memory are as they were left
-pub record Going (p : Problem) (asks lent answers table : List ℕ) (m : Memory) (k : ℕ) : Type 0 where
+-- the first k asks are answered in the words `answers`, which were lent as `lent`; the table and the carry are as they were left
+pub record Going (p : Problem) (asks lent answers table : List ℕ) (m : Carry) (k : ℕ) : Type 0 where
   -- what each ask was told, and the nogoods that it left
   pub told : List Answer
   pub left : List (List Nogood)
@@ -28,11 +28,11 @@ pub record Going (p : Problem) (asks lent answers table : List ℕ) (m : Memory)
   pub stock : Stock p (flatten left) table (m .used)
   pub leaves : (i : ℕ) → i < k → Leaves (settled asks told i) (ceilingAt asks i) (answerAt told i) (leftAt left i)
   pub room : m .used ≤ length table - 32 + k
-  -- the memory is right, has what was told, and settles just what the asks so far settle
+  -- the carry is right, has what was told, and settles just what the asks so far settle
   pub knows : Knows p m
-  pub recalls : (i : ℕ) → i < k → Recalls p m (ceilingAt asks i) (answerAt told i)
+  pub recalls : (i : ℕ) → i < k → Remembers p m (ceilingAt asks i) (answerAt told i)
   pub settled-by : (d : ℕ) → someTo k (λ j. settles (ceilingAt asks j) (answerAt told j) d) ≡ settledBy m d
 
 -- ask k answered: whatever was lent, a run that had come to it has come to the next
-pub record Turned (p : Problem) (asks answers table : List ℕ) (m : Memory) (k : ℕ) (answers′ table′ : List ℕ) (m′ : Memory) : Type 0 where
+pub record Turned (p : Problem) (asks answers table : List ℕ) (m : Carry) (k : ℕ) (answers′ table′ : List ℕ) (m′ : Carry) : Type 0 where
   pub next : (lent : List ℕ) → Going p asks lent answers table m k → Going p asks lent answers′ table′ m′ (k + 1)

@@ -1,5 +1,5 @@
 -- what a run remembers from one ask to the next
-pub mod Memory
+pub mod Carry
 -- a run after some of its asks
 pub mod Going
 -- what its functions ask and give

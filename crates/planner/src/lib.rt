@@ -1,5 +1,5 @@
 // A run of asks on any words: refused under the listed causes, in their order, or every ask answered in the lent words, in turn, with the table of
-// conflicts and a memory carried from each to the next.
+// nogoods and what they settle carried from each to the next.
 use decoder::Verdict;
 use instance::Euro;
 use model::Layout;
@@ -11,30 +11,36 @@ ghost use mathlib.Core.Path.{_≡_};
 ghost use Prim.Native.Nat.{_+_, _<_, max};
 ghost use lib.ListN.{length, replicate};
 ghost use Rattle.model.specs.Words.{problemOf};
-ghost use Rattle.model.specs.Asks.{askCount, Answered, Ran};
+ghost use Rattle.model.specs.Asks.{Answered, Ran};
 ghost use Rattle.decoder.specs.Answers.{verdictOf};
 ghost use Rattle.instance.specs.Filed.{Filed};
 ghost use Rattle.tables.specs.Tables.{TABLES, priceIn};
-ghost use Rattle.relaxation.specs.Relaxed.{Recalls};
+ghost use Rattle.relaxation.specs.Relaxed.{MemoTrue};
 ghost use Rattle.search.specs.Walk.{Walking};
 ghost use Rattle.asks.specs.Admitted.{Admitted};
-ghost use Rattle.planner.specs.Memory.{SaysNothing, SaysNone, withUsed, Remembered};
+ghost use Rattle.planner.specs.Carry.{SaysNothing, SaysNone, withUsed, Remembered};
 ghost use Rattle.planner.specs.Going.{Turned};
-ghost use Rattle.planner.specs.Due.{ReplyDue, Told, PutDue, TurnPut, TurnDue, Runs};
+ghost use Rattle.planner.specs.Due.{ReplyDue, Told, PutDue, TurnPut, TurnDue, RunDue};
 
 // What the asks so far have settled: no sound schedule costs less than `least`, and where a plan is known it is the earliest at that cost. Beside it
 // the words of the table in use.
-pub struct Memory {
+pub struct Carry {
     pub plan: Reply,
     pub least: Euro,
     pub used: usize,
     pub known: bool,
 }
 
+// The turn of an ask: its number, from 0, and what the asks before it have settled.
+struct AskTurn {
+    ask: usize,
+    carry: Carry,
+}
+
 // ---- a settled ask
 
 // None, with so many words of the table in use.
-fn none(used: usize) -> Reply
+fn no_plan(used: usize) -> Reply
     ensures { λ r. ⌜ SaysNone used r ⌝ }
 {
     Reply {
@@ -54,7 +60,7 @@ fn none(used: usize) -> Reply
 }
 
 // A plan again, with so many words of the table in use.
-fn again(plan: Reply, used: usize) -> Reply
+fn repeat_plan(plan: Reply, used: usize) -> Reply
     ensures { λ r. ⌜ r ≡ withUsed plan used ⌝ }
 {
     let mut s = plan.state;
@@ -70,14 +76,14 @@ fn again(plan: Reply, used: usize) -> Reply
 
 // ---- one ask
 
-// What ask k is told: at once where the memory settles it, else by a search.
+// What ask k is told: at once where the carry settles it, else by a search (D66).
 fn reply(
     words: &[u32],
     l: Layout,
     tables: &[u32; TABLES],
     asks: &[u32],
     k: usize,
-    m: Memory,
+    m: Carry,
     table: &mut [u32],
     scratch: &mut [u32],
 ) -> Reply
@@ -88,11 +94,11 @@ fn reply(
     let used = m.used;
     let least = m.least;
     if (ceiling as u64) < least.0 {
-        return none(used);
+        return no_plan(used);
     }
     if m.known {
         let plan = m.plan;
-        return again(plan, used);
+        return repeat_plan(plan, used);
     }
     let budget = asks::budget(asks, k);
     search::solve(words, l, tables, ceiling, budget, table, used, scratch)
@@ -108,8 +114,8 @@ fn raised(low: Euro, ceiling: u32) -> Euro
     Euro(ceiling as u64 + 1)
 }
 
-// What is remembered after a reply: a plan, that there is none, or of a spent ask nothing.
-fn remembered(m: Memory, ceiling: u32, told: Reply) -> Memory
+// What is remembered after a reply: a plan, that there is none, or of a spent ask nothing (D65).
+fn remembered(m: Carry, ceiling: u32, told: Reply) -> Carry
     ensures { λ r. ⌜ Remembered m ceiling told r ⌝ }
 {
     let st = told.state;
@@ -117,7 +123,7 @@ fn remembered(m: Memory, ceiling: u32, told: Reply) -> Memory
     let plan = m.plan;
     let least = m.least;
     match w {
-        Walked::Spent(_) => Memory {
+        Walked::Spent(_) => Carry {
             plan,
             least,
             used: st.used,
@@ -126,14 +132,14 @@ fn remembered(m: Memory, ceiling: u32, told: Reply) -> Memory
         Walked::Dead(_) => {
             if st.found {
                 let cost = st.limit;
-                return Memory {
+                return Carry {
                     plan: told,
                     least: cost,
                     used: st.used,
                     known: true,
                 };
             }
-            Memory {
+            Carry {
                 plan,
                 least: raised(least, ceiling),
                 used: st.used,
@@ -143,15 +149,8 @@ fn remembered(m: Memory, ceiling: u32, told: Reply) -> Memory
     }
 }
 
-// Puts the block of ask k into the lent words; the memory of it is handed on.
-fn put_turn(
-    l: Layout,
-    asks: &[u32],
-    k: usize,
-    m: Memory,
-    told: Reply,
-    answers: &mut [u32],
-) -> Memory
+// Puts the block of ask k into the lent words; what is carried then is given.
+fn put_turn(l: Layout, asks: &[u32], k: usize, m: Carry, told: Reply, answers: &mut [u32]) -> Carry
     requires { ⌜ PutDue l (now asks) k told (length (now answers)) ⌝ }
     ensures { λ r. ⌜ TurnPut l (now (asks .entry)) k m told (now (answers .entry)) (now (answers .exit)) r ⌝ }
 {
@@ -159,76 +158,78 @@ fn put_turn(
     remembered(m, asks::ceiling(asks, k), told)
 }
 
-// Answers ask k.
+// Answers the ask whose turn it is; what is carried then is given (D23).
 fn answer(
     words: &[u32],
     l: Layout,
     tables: &[u32; TABLES],
     asks: &[u32],
-    k: usize,
-    m: Memory,
+    turn: AskTurn,
     answers: &mut [u32],
     table: &mut [u32],
     scratch: &mut [u32],
-) -> Memory
-    requires { ⌜ TurnDue (now words) l (now tables) (now asks) k m (length (now answers)) (now table) (now scratch) ⌝ }
-    ensures answer { λ r. ⌜ Turned (problemOf (now (words .entry))) (now (asks .entry)) (now (answers .entry)) (now (table .entry)) m k
+) -> Carry
+    requires { ⌜ TurnDue (now words) l (now tables) (now asks) (turn .ask) (turn .carry) (length (now answers)) (now table) (now scratch) ⌝ }
+    ensures answer { λ r. ⌜ Turned (problemOf (now (words .entry))) (now (asks .entry)) (now (answers .entry)) (now (table .entry)) (turn .carry) (turn .ask)
         (now (answers .exit)) (now (table .exit)) r ⌝ }
-    ensures recalls { λ r. ⌜ Recalls (problemOf (now (words .entry))) (priceIn (now (tables .entry))) (now (scratch .exit)) ⌝ }
+    ensures recalls { λ r. ⌜ MemoTrue (problemOf (now (words .entry))) (priceIn (now (tables .entry))) (now (scratch .exit)) ⌝ }
 {
+    let k = turn.ask;
+    let m = turn.carry;
     let told = reply(words, l, tables, asks, k, m, table, scratch);
     put_turn(l, asks, k, m, told, answers)
 }
 
 // ---- a run
 
-// A memory before the first ask.
-fn nothing() -> Memory
+// A carry before the first ask.
+fn empty_carry() -> Carry
     ensures { λ r. ⌜ SaysNothing r ⌝ }
 {
-    Memory {
-        plan: none(0),
+    Carry {
+        plan: no_plan(0),
         least: Euro(0),
         used: 0,
         known: false,
     }
 }
 
-// Every ask of a run in turn, from a memory before the first.
+// Every ask of a run in turn, from a carry before the first.
 fn answer_each(
     words: &[u32],
     l: Layout,
     tables: &[u32; TABLES],
     asks: &[u32],
-    first: Memory,
+    first: Carry,
     answers: &mut [u32],
     table: &mut [u32],
     scratch: &mut [u32],
 )
-    requires { ⌜ Runs (now words) l (now tables) (now asks) (now answers) (now table) (now answers) (now table) first 0 (now scratch) ⌝ }
+    requires { ⌜ RunDue (now words) l (now tables) (now asks) (now answers) (now table) (now answers) (now table) first 0 (now scratch) ⌝ }
     ensures { λ r. ⌜ Answered (problemOf (now (words .entry))) (now (asks .entry)) (now (answers .entry)) (now (answers .exit)) (now (table .exit)) ⌝ }
     ensures { λ r. ⌜ length (now (table .exit)) ≡ length (now (table .entry)) ⌝ }
 {
     let n = asks.len() / 2;
     let mut m = first;
-    // Each time round, the asks before k are answered, and the memory says what they settle.
+    // Each time round, the asks before k are answered, and the carry says what they settle.
     for k in 0..n {
-        let next = answer(words, l, tables, asks, k, m, answers, table, scratch);
+        let turn = AskTurn { ask: k, carry: m };
+        let next = answer(words, l, tables, asks, turn, answers, table, scratch);
         m = next;
     }
 }
 
-// The table of a walk for a file, with an emptied memory.
+// The table of a walk for a file, with an emptied memo.
 fn tables_of(words: &[u32], l: Layout, scratch: &mut [u32]) -> [u32; TABLES]
     requires { ⌜ Filed (now words) l × (now scratch ≡ replicate (length (now scratch)) 0) ⌝ }
     ensures { λ r. ⌜ Walking (now (words .entry)) l r (now (scratch .exit)) ⌝ }
 {
     let first = tables::first(words, l);
     let priced = prices::find_prices(words, l, &first, scratch);
-    dual::filled(words, l, &priced, scratch)
+    dual::fill_tables(words, l, &priced, scratch)
 }
 
-// Every ask of a run in turn, at prices that the file gives, with an emptied table.
+// Every ask of a run in turn, at prices that the file gives, with an emptied table (D63).
 fn answer_priced(
     words: &[u32],
     l: Layout,
@@ -243,11 +244,11 @@ fn answer_priced(
     ensures { λ r. ⌜ length (now (table .exit)) ≡ length (now (table .entry)) ⌝ }
 {
     let tables = tables_of(words, l, scratch);
-    let first = nothing();
+    let first = empty_carry();
     answer_each(words, l, &tables, asks, first, answers, table, scratch);
 }
 
-// Every ask of a run that was not turned away. Table and scratch are emptied first, whatever they held.
+// Every ask of a run that was not turned away. Table and scratch are emptied first, whatever they held (D68).
 fn answer_all(
     words: &[u32],
     l: Layout,
@@ -265,7 +266,7 @@ fn answer_all(
     answer_priced(words, l, asks, answers, table, scratch);
 }
 
-// A run of asks: refused, and every lent word as it was; or every ask answered.
+// A run of asks: refused, and every lent word as it was; or every ask answered (D62).
 pub fn run(
     words: &[u32],
     asks: &[u32],

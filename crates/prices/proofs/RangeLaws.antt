@@ -1,28 +1,28 @@
 -- What the rounds keep to: prices and pushes in a table, read and written, the length of a step and what it changes, and the weeks of an overhaul.
 -- Assumes nothing.
 use Prim.Native.Nat.{ℕ, _+_, _*_, _/_, _-_, _≤_, _<_}
-use mathlib.Core.Path.{_≡_, refl}
+use mathlib.Core.Path.{_≡_, refl, _∙_}
 use mathlib.Core.Bool.{false}
 use mathlib.Core.List.{List}
 use mathlib.Core.Logic.{_⊎_, inl, inr}
-use native.Mathlib.Decide.{ℕ-discrete, decLt}
 use native.Mathlib.Nat.{le-trans, mul-le-mul-left, mul-le-mul-right, div-le-self}
 use native.Mathlib.Omega.{arith}
 use lib.Dec.{ltb}
-use lib.ListN.{length, getD, set, replicate, length-set, length-replicate, getD-replicate, List·getD-eq-default}
-use lib.Seq.{getD-set-same, getD-set-other}
+use lib.ListN.{getD, set, length-set}
+use lib.Seq.{getD-set-other}
 use mir.Syntax.{w64}
 use mir.Val.{Fits}
 use borrow.Author.Tests.{le-leb, lt-leb}
+use Rattle.sums.specs.Table.{AtMost}
 use Rattle.model.specs.declared.Layout.{Layout}
 use Rattle.model.specs.Schedule.{inSpan}
 use Rattle.model.specs.Words.{problemOf}
 use Rattle.instance.specs.Filed.{Filed}
 use Rattle.overhaul.specs.Range.{lastStart}
-use Rattle.tables.specs.Tables.{MOST_PRICE, First, Priced}
-use Rattle.tables.proofs.TableLaws.{first-priced, priced-put}
+use Rattle.tables.specs.Tables.{PARTNERS, OFFS, MOST_PRICE, partnersIn, offIn, Prices, First, Priced}
+use Rattle.tables.proofs.TableLaws.{first-priced, prices-put}
 use Rattle.relaxation.specs.Relaxed.{WeekAt}
-use Rattle.prices.specs.Ranges.{PLACES, LEVEL, MOST_PUSH, MOST_STEP, PricedFile, Pushes, OneOf}
+use Rattle.prices.specs.Ranges.{LEVEL, MOST_PUSH, MOST_SQUARE, MOST_AIM, REACH, MOST_STEP, STEP_SCALE, MOST_CHANGE, PricedFile, Moved, OneOf}
 
 -- ---- prices
 
@@ -30,10 +30,41 @@ use Rattle.prices.specs.Ranges.{PLACES, LEVEL, MOST_PUSH, MOST_STEP, Pri
 pub priced-first : (ws : List ℕ) (l : Layout) (xs : List ℕ) → Filed ws l → First (problemOf ws) (problemOf ws .units) xs → PricedFile ws l xs
 priced-first ws l xs f h = record { filed = f; priced = first-priced (problemOf ws) xs h }
 
--- a price written
-pub priced-next : (ws : List ℕ) (l : Layout) (xs : List ℕ) (t i v : ℕ) → Filed ws l → Priced (problemOf ws) xs → t < l .weeks → i < l .units → v ≤ MOST_PRICE
-    → Priced (problemOf ws) (set xs (t * 16 + i) v)
-priced-next ws l xs t i v f h week unit few = priced-put ws l xs (t * 16 + i) v f h (omega (arith, f .weeks-most, f .units-most)) few
+-- no price moved yet
+pub moved-start : (xs : List ℕ) → Prices xs → Moved xs xs
+moved-start xs h = record { long = refl; prices = h; same = λ k far. refl }
+
+-- one price written
+pub moved-next : (xs ys : List ℕ) (t i n u v : ℕ) → Moved xs ys → t < 52 → i < n → n ≡ u → u ≤ 16 → v ≤ MOST_PRICE → Moved xs (set ys (t * 16 + i) v)
+moved-next xs ys t i n u v h week unit is few small = record {
+  long = length-set ys (t * 16 + i) v ∙ h .long;
+  prices = prices-put ys (t * 16 + i) v (h .prices) small;
+  same = λ k far. getD-set-other ys (t * 16 + i) k v 0 (λ z. omega arith) ∙ h .same k far;
+}
+
+-- and moved again
+pub moved-on : (xs ys zs : List ℕ) → Moved xs ys → Moved ys zs → Moved xs zs
+moved-on xs ys zs a b = record {
+  long = b .long ∙ a .long;
+  prices = b .prices;
+  same = λ k far. b .same k far ∙ a .same k far;
+}
+
+-- partners and OFF costs are as they were
+pub moved-priced : (ws : List ℕ) (l : Layout) (xs ys : List ℕ) → PricedFile ws l xs → Moved xs ys → PricedFile ws l ys
+unfolding partnersIn offIn
+moved-priced ws l xs ys h m = record {
+  filed = h .filed;
+  priced = record {
+    long = m .long ∙ h .priced .long;
+    prices = m .prices;
+    partners = record { each = λ i few. rw (m .same (PARTNERS + i) (omega arith)) (h .priced .partners .each i few) };
+    offs = record {
+      each = λ i few. rw (m .same (OFFS + i) (omega arith)) (h .priced .offs .each i few);
+      small = λ i few. rw (m .same (OFFS + i) (omega arith)) (h .priced .offs .small i few);
+    };
+  };
+}
 
 -- the first of two tables
 pub oneOf-first : (xs ys : List ℕ) → OneOf xs ys xs
@@ -61,30 +92,9 @@ priced-week ws l xs t h week = record { filed = h .filed; week = week; priced = 
 
 -- ---- pushes
 
--- pushes of none
-pub pushes-none : Pushes (replicate PLACES LEVEL)
-pushes-none = record { small = λ k. by k (decLt k PLACES) }
-  where
-    by : (k : ℕ) → Dec (k < PLACES) → getD (replicate PLACES LEVEL) k 0 ≤ MOST_PUSH
-    by k (yes l) = omega (arith, getD-replicate PLACES k LEVEL 0 l)
-    by k (no l) =
-        let e : length (replicate PLACES LEVEL) ≤ k = omega (arith, length-replicate PLACES LEVEL) in
-        omega (arith, List·getD-eq-default (replicate PLACES LEVEL) 0 e)
-
 -- a push read
-pub pushes-at : (xs : List ℕ) (k : ℕ) → Pushes xs → getD xs k 0 ≤ MOST_PUSH
-pushes-at xs k h = h .small k
-
--- a push written
-pub pushes-put : (xs : List ℕ) (at v : ℕ) → Pushes xs → v ≤ MOST_PUSH → Pushes (set xs at v)
-pushes-put xs at v h m = record { small = λ k. by k (ℕ-discrete k at) (decLt at (length xs)) }
-  where
-    by : (k : ℕ) → Dec (k ≡ at) → Dec (at < length xs) → getD (set xs at v) k 0 ≤ MOST_PUSH
-    by k (yes e) (yes l) = rw e (omega (arith, getD-set-same xs at v 0 l))
-    by k (yes e) (no l) =
-        let n : length (set xs at v) ≤ k = omega (arith, length-set xs at v) in
-        omega (arith, List·getD-eq-default (set xs at v) 0 n)
-    by k (no e) l = omega (arith, getD-set-other xs at k v 0 e, h .small k)
+pub push-most : (xs : List ℕ) (k : ℕ) → AtMost MOST_PUSH xs → getD xs k 0 ≤ MOST_PUSH
+push-most xs k h = h .most k
 
 -- ---- steps
 
@@ -93,21 +103,21 @@ product-most : (a b m n : ℕ) → a ≤ m → b ≤ n → a * b ≤ m * n
 product-most a b m n h k = le-trans (mul-le-mul-right b h) (mul-le-mul-left m k)
 
 -- the square of a push
-pub square-most : (a : ℕ) → a ≤ LEVEL → a * a ≤ 1048576
+pub square-most : (a : ℕ) → a ≤ LEVEL → a * a ≤ MOST_SQUARE
 square-most a h = product-most a a LEVEL LEVEL h h
 
 pub square-fits : (a : ℕ) → a ≤ LEVEL → Fits w64 (a * a)
 square-fits a h = record { fits = omega (arith, square-most a h) }
 
 -- what a step comes to before it is divided by the squared norm
-aim-most : (a b : ℕ) → a ≤ 2199023255552 → b ≤ 256 → a * b ≤ MOST_STEP
-aim-most a b h k = product-most a b 2199023255552 256 h k
+aim-most : (a b : ℕ) → a ≤ MOST_AIM → b ≤ REACH → a * b ≤ MOST_STEP
+aim-most a b h k = product-most a b MOST_AIM REACH h k
 
-pub aim-fits : (a b : ℕ) → a ≤ 2199023255552 → b ≤ 256 → Fits w64 (a * b)
+pub aim-fits : (a b : ℕ) → a ≤ MOST_AIM → b ≤ REACH → Fits w64 (a * b)
 aim-fits a b h k = record { fits = omega (arith, aim-most a b h k) }
 
 -- the step
-pub step-most : (a b n : ℕ) → a ≤ 2199023255552 → b ≤ 256 → a * b / n ≤ MOST_STEP
+pub step-most : (a b n : ℕ) → a ≤ MOST_AIM → b ≤ REACH → a * b / n ≤ MOST_STEP
 step-most a b n h k = le-trans (div-le-self (a * b) n) (aim-most a b h k)
 
 -- a step and a push
@@ -115,7 +125,7 @@ pub change-fits : (a b : ℕ) → a ≤ MOST_STEP → b ≤ LEVEL → Fits w64 (
 change-fits a b h k = record { fits = omega (arith, product-most a b MOST_STEP LEVEL h k) }
 
 -- what they change a price by
-pub change-most : (a b : ℕ) → a ≤ MOST_STEP → b ≤ LEVEL → a * b / 65536 ≤ 8796093022208
+pub change-most : (a b : ℕ) → a ≤ MOST_STEP → b ≤ LEVEL → a * b / STEP_SCALE ≤ MOST_CHANGE
 change-most a b h k = omega (arith, product-most a b MOST_STEP LEVEL h k)
 
 -- ---- overhauls

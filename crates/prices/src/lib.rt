@@ -8,13 +8,13 @@ use momentum::PLACES;
 use step::Progress;
 use tables::TABLES;
 use wants::WANT_WORDS;
-ghost use mathlib.Core.Path.{_≡_};
 ghost use Prim.Native.Nat.{_<_};
+ghost use Rattle.sums.specs.Table.{AtMost};
 ghost use Rattle.model.specs.Words.{problemOf};
 ghost use Rattle.instance.specs.Filed.{Filed};
 ghost use Rattle.memo.specs.Memo.{Right, Others};
 ghost use Rattle.tables.specs.Tables.{First, Priced};
-ghost use Rattle.prices.specs.Ranges.{NO_BOUND, PricedFile, Pushes, ProgressInRange, OneOf};
+ghost use Rattle.prices.specs.Ranges.{NO_BOUND, MOST_PUSH, PricedFile, ProgressInRange, OneOf};
 
 mod momentum;
 mod step;
@@ -41,8 +41,8 @@ fn run_round(
     wants: &mut [u32; WANT_WORDS],
     memo: &mut [u32],
 ) -> u64
-    requires { ⌜ PricedFile (now words) l (now tables) × Pushes (now push) × ProgressInRange s × Right (problemOf (now words)) (now memo) ⌝ }
-    ensures ranges { λ r. ⌜ PricedFile (now (words .entry)) l (now (tables .exit)) × Pushes (now (push .exit)) ⌝ }
+    requires { ⌜ PricedFile (now words) l (now tables) × AtMost MOST_PUSH (now push) × ProgressInRange s × Right (problemOf (now words)) (now memo) ⌝ }
+    ensures ranges { λ r. ⌜ PricedFile (now (words .entry)) l (now (tables .exit)) × AtMost MOST_PUSH (now (push .exit)) ⌝ }
     ensures right { λ r. ⌜ Right (problemOf (now (words .entry))) (now (memo .exit)) × Others (now (memo .entry)) (now (memo .exit)) ⌝ }
 {
     momentum::update_momentum(words, l, wants, push);
@@ -51,7 +51,7 @@ fn run_round(
         return NO_BOUND;
     }
     let step = step::step_of(s, norm);
-    step::move_prices(words, l, step, push, tables);
+    step::move_prices(l, step, push, tables);
     wants::solve_relaxation(words, l, tables, wants, memo).0
 }
 
@@ -65,8 +65,8 @@ fn keep_or_restart(
     best: &mut [u32; TABLES],
     kept: &mut [u32; WANT_WORDS],
 ) -> Progress
-    requires { ⌜ (root < NO_BOUND) × ProgressInRange s × Pushes (now push) ⌝ }
-    ensures ranges { λ r. ⌜ ProgressInRange r × Pushes (now (push .exit)) ⌝ }
+    requires { ⌜ (root < NO_BOUND) × ProgressInRange s × AtMost MOST_PUSH (now push) ⌝ }
+    ensures ranges { λ r. ⌜ ProgressInRange r × AtMost MOST_PUSH (now (push .exit)) ⌝ }
     ensures chosen { λ r. ⌜ OneOf (now (tables .entry)) (now (best .entry)) (now (tables .exit))
         × OneOf (now (tables .entry)) (now (best .entry)) (now (best .exit)) ⌝ }
 {
@@ -148,7 +148,7 @@ fn ascend(
 }
 
 // The first table of a file with prices put in; as it is, with prices of 0, where a unit has no permitted start, or a week no run with nobody out.
-// Least costs that the rounds ask for are kept in the memory.
+// Least costs that the rounds ask for are kept in the memo (D79).
 pub fn find_prices(
     words: &[u32],
     l: Layout,

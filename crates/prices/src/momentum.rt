@@ -5,9 +5,10 @@ use crate::wants::WANT_WORDS;
 use model::Layout;
 ghost use mathlib.Core.Path.{_≡_};
 ghost use Prim.Native.Nat.{_<_, _≤_};
+ghost use Rattle.sums.specs.Table.{AtMost};
 ghost use Rattle.model.specs.Schedule.{inSpan};
 ghost use Rattle.instance.specs.Filed.{Filed};
-ghost use Rattle.prices.specs.Ranges.{PLACES, LEVEL, ROUND_PUSH, MOST_PUSH, Pushes};
+ghost use Rattle.prices.specs.Ranges.{PLACES, LEVEL, ROUND_PUSH, MOST_PUSH, MOST_SQUARE, MOST_NORM};
 
 // A push for each price: 52 weeks of 16 units.
 pub const PLACES: usize = 832;
@@ -20,7 +21,7 @@ const ROUND_PUSH_SQUARED: u64 = 65536;
 
 // The push at a place.
 pub fn push_at(push: &[u32; PLACES], place: usize) -> u32
-    requires { ⌜ (place < PLACES) × Pushes (now push) ⌝ }
+    requires { ⌜ (place < PLACES) × AtMost MOST_PUSH (now push) ⌝ }
     ensures { λ r. ⌜ r ≤ MOST_PUSH ⌝ }
 {
     push[place]
@@ -64,8 +65,8 @@ fn update_unit(
     i: usize,
     push: &mut [u32; PLACES],
 )
-    requires { ⌜ Filed (now words) l × (i < l .units) × Pushes (now push) ⌝ }
-    ensures { λ r. ⌜ Pushes (now (push .exit)) ⌝ }
+    requires { ⌜ Filed (now words) l × (i < l .units) × AtMost MOST_PUSH (now push) ⌝ }
+    ensures { λ r. ⌜ AtMost MOST_PUSH (now (push .exit)) ⌝ }
 {
     let start = wants::wanted_start(wants, i);
     let duration = instance::duration(words, l, i);
@@ -85,8 +86,8 @@ pub fn update_momentum(
     wants: &[u32; WANT_WORDS],
     push: &mut [u32; PLACES],
 )
-    requires { ⌜ Filed (now words) l × Pushes (now push) ⌝ }
-    ensures { λ r. ⌜ Pushes (now (push .exit)) ⌝ }
+    requires { ⌜ Filed (now words) l × AtMost MOST_PUSH (now push) ⌝ }
+    ensures { λ r. ⌜ AtMost MOST_PUSH (now (push .exit)) ⌝ }
 {
     let units = l.units;
     for i in 0..units {
@@ -108,7 +109,7 @@ pub fn magnitude(push: u32) -> u64
 // The square of that.
 fn squared_magnitude(push: u32) -> u64
     requires { ⌜ push ≤ MOST_PUSH ⌝ }
-    ensures { λ r. ⌜ r ≤ 1048576 ⌝ }
+    ensures { λ r. ⌜ r ≤ MOST_SQUARE ⌝ }
 {
     let x = magnitude(push);
     x * x
@@ -116,8 +117,8 @@ fn squared_magnitude(push: u32) -> u64
 
 // The sum of the squares of the pushes; one price pushed once counts 1.
 pub fn squared_norm(l: Layout, push: &[u32; PLACES]) -> u64
-    requires { ⌜ (l .weeks ≤ 52) × Pushes (now push) ⌝ }
-    ensures { λ r. ⌜ r ≤ 13312 ⌝ }
+    requires { ⌜ (l .weeks ≤ 52) × AtMost MOST_PUSH (now push) ⌝ }
+    ensures { λ r. ⌜ r ≤ MOST_NORM ⌝ }
 {
     let used = l.weeks * 16;
     let mut sum = 0;

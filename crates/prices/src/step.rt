@@ -6,15 +6,15 @@ use instance::Euro;
 use model::Layout;
 use tables::MOST_PRICE;
 use tables::TABLES;
-ghost use mathlib.Core.Path.{_≡_};
-ghost use Prim.Native.Nat.{_-_, _<_, _≤_};
-ghost use Rattle.tables.specs.Tables.{MOST_PRICE};
-ghost use Rattle.prices.specs.Ranges.{LEVEL, MOST_PUSH, MOST_STEP, PricedFile, Pushes, ProgressInRange};
+ghost use Prim.Native.Nat.{_<_, _≤_};
+ghost use Rattle.sums.specs.Table.{AtMost};
+ghost use Rattle.tables.specs.Tables.{MOST_PRICE, Prices};
+ghost use Rattle.prices.specs.Ranges.{LEVEL, MOST_PUSH, MOST_AIM, MOST_STEP, MOST_CHANGE, Moved, ProgressInRange};
 
 // A step aims above the best bound so far by this fraction of it.
 const AIM: u64 = 200;
 // A step is in 256ths, and a push of one round is 256.
-const SCALE: u64 = 65536;
+const STEP_SCALE: u64 = 65536;
 
 // How far the rounds have come: the best bound so far and that of the prices at hand, the reach of steps, and the rounds since the last gain.
 // Bounds are plain numbers from here on: no sum is made of them, but lengths of steps.
@@ -25,20 +25,10 @@ pub struct Progress {
     pub idle: u32,
 }
 
-// What an amount has above another, 0 where that is more.
-fn saturating_sub(a: u64, b: u64) -> u64
-    ensures { λ r. ⌜ r ≡ a - b ⌝ }
-{
-    if a < b {
-        return 0;
-    }
-    a - b
-}
-
 // How far above the bound at hand a step aims: as far as the best bound so far, and a fraction more.
 fn aim_of(s: Progress) -> u64
     requires { ⌜ ProgressInRange s ⌝ }
-    ensures { λ r. ⌜ r ≤ 2199023255552 ⌝ }
+    ensures { λ r. ⌜ r ≤ MOST_AIM ⌝ }
 {
     s.best / AIM + s.best - s.at
 }
@@ -54,9 +44,9 @@ pub fn step_of(s: Progress, norm: u64) -> u64
 // How far a step changes a price.
 fn change(step: u64, magnitude: u64) -> u64
     requires { ⌜ (step ≤ MOST_STEP) × (magnitude ≤ LEVEL) ⌝ }
-    ensures { λ r. ⌜ r ≤ 8796093022208 ⌝ }
+    ensures { λ r. ⌜ r ≤ MOST_CHANGE ⌝ }
 {
-    step * magnitude / SCALE
+    step * magnitude / STEP_SCALE
 }
 
 // A price up to the highest.
@@ -77,22 +67,15 @@ fn moved(price: Euro, push: u32, step: u64) -> u32
     let old = price.0;
     let by = change(step, momentum::magnitude(push));
     if push < LEVEL {
-        return saturating_sub(old, by) as u32;
+        return words::saturating_sub(old, by) as u32;
     }
     capped(old + by) as u32
 }
 
 // Moves the prices of week t.
-fn move_week(
-    words: &[u32],
-    l: Layout,
-    t: usize,
-    step: u64,
-    push: &[u32; PLACES],
-    tables: &mut [u32; TABLES],
-)
-    requires { ⌜ PricedFile (now words) l (now tables) × Pushes (now push) × (t < l .weeks) × (step ≤ MOST_STEP) ⌝ }
-    ensures { λ r. ⌜ PricedFile (now (words .entry)) l (now (tables .exit)) ⌝ }
+fn move_week(l: Layout, t: usize, step: u64, push: &[u32; PLACES], tables: &mut [u32; TABLES])
+    requires { ⌜ (l .units ≤ 16) × (t < 52) × (step ≤ MOST_STEP) × AtMost MOST_PUSH (now push) × Prices (now tables) ⌝ }
+    ensures { λ r. ⌜ Moved (now (tables .entry)) (now (tables .exit)) ⌝ }
 {
     let units = l.units;
     for i in 0..units {
@@ -103,18 +86,12 @@ fn move_week(
 }
 
 // Moves all prices.
-pub fn move_prices(
-    words: &[u32],
-    l: Layout,
-    step: u64,
-    push: &[u32; PLACES],
-    tables: &mut [u32; TABLES],
-)
-    requires { ⌜ PricedFile (now words) l (now tables) × Pushes (now push) × (step ≤ MOST_STEP) ⌝ }
-    ensures { λ r. ⌜ PricedFile (now (words .entry)) l (now (tables .exit)) ⌝ }
+pub fn move_prices(l: Layout, step: u64, push: &[u32; PLACES], tables: &mut [u32; TABLES])
+    requires { ⌜ (l .weeks ≤ 52) × (l .units ≤ 16) × (step ≤ MOST_STEP) × AtMost MOST_PUSH (now push) × Prices (now tables) ⌝ }
+    ensures { λ r. ⌜ Moved (now (tables .entry)) (now (tables .exit)) ⌝ }
 {
     let weeks = l.weeks;
     for t in 0..weeks {
-        move_week(words, l, t, step, push, tables);
+        move_week(l, t, step, push, tables);
     }
 }

@@ -10,7 +10,7 @@ ghost use Prim.Native.Nat.{_+_, _*_, _<_, _≤_};
 ghost use Rattle.model.specs.Words.{problemOf};
 ghost use Rattle.memo.specs.Memo.{Right, Others};
 ghost use Rattle.tables.specs.Tables.{MOST_PRICE};
-ghost use Rattle.prices.specs.Ranges.{NO_BOUND, PricedFile};
+ghost use Rattle.prices.specs.Ranges.{NO_BOUND, MOST_FIRST_COST, PricedFile};
 ghost use Rattle.prices.specs.Wanted.{outWanted, startWanted};
 
 // The words of the table.
@@ -45,7 +45,7 @@ pub fn wanted_start(wants: &[u32; WANT_WORDS], i: usize) -> u32
 // ---- units
 
 // What week t of unit i's overhaul costs, its price included.
-fn week_cost(words: &[u32], l: Layout, tables: &[u32; TABLES], t: usize, i: usize) -> Euro
+fn priced_week(words: &[u32], l: Layout, tables: &[u32; TABLES], t: usize, i: usize) -> Euro
     requires { ⌜ PricedFile (now words) l (now tables) × (t < l .weeks) × (i < l .units) ⌝ }
     ensures { λ r. ⌜ r .0 ≤ 250000 + MOST_PRICE ⌝ }
 {
@@ -66,7 +66,7 @@ fn swap_cost(
     ensures { λ r. ⌜ r .0 ≤ 500000 + MOST_PRICE ⌝ }
 {
     let off = instance::off_cost(words, l, outside, i);
-    week_cost(words, l, tables, inside, i).plus(off)
+    priced_week(words, l, tables, inside, i).plus(off)
 }
 
 // What the overhaul of unit i costs from its first permitted start, its prices included, with OFF in all other weeks.
@@ -79,12 +79,12 @@ fn first_cost(
     duration: usize,
 ) -> Euro
     requires { ⌜ PricedFile (now words) l (now tables) × (i < l .units) × (first + duration ≤ l .weeks) ⌝ }
-    ensures { λ r. ⌜ r .0 ≤ 8589934592 ⌝ }
+    ensures { λ r. ⌜ r .0 ≤ MOST_FIRST_COST ⌝ }
 {
     let mut sum = tables::off_cost(tables, i);
     // Each time round, `sum` is what k weeks of the overhaul cost, with OFF in all other weeks.
     for k in 0..duration {
-        let more = sum.plus(week_cost(words, l, tables, first + k, i));
+        let more = sum.plus(priced_week(words, l, tables, first + k, i));
         let off = instance::off_cost(words, l, first + k, i);
         sum = more.less(off);
     }
@@ -182,32 +182,6 @@ fn weeks_value(
 
 // ---- the bound
 
-// The OFF cost of unit i in all weeks, and its prices.
-fn unit_total(words: &[u32], l: Layout, tables: &[u32; TABLES], i: usize) -> Euro
-    requires { ⌜ PricedFile (now words) l (now tables) × (i < l .units) ⌝ }
-    ensures { λ r. ⌜ r .0 ≤ 4294967296 + 52 * MOST_PRICE ⌝ }
-{
-    let weeks = l.weeks;
-    let mut sum = tables::off_cost(tables, i);
-    for t in 0..weeks {
-        sum = sum.plus(tables::price(tables, t, i));
-    }
-    sum
-}
-
-// All OFF costs and all prices.
-fn total(words: &[u32], l: Layout, tables: &[u32; TABLES]) -> Euro
-    requires { ⌜ PricedFile (now words) l (now tables) ⌝ }
-    ensures { λ r. ⌜ r .0 ≤ 16 * (4294967296 + 52 * MOST_PRICE) ⌝ }
-{
-    let units = l.units;
-    let mut sum = Euro(0);
-    for i in 0..units {
-        sum = sum.plus(unit_total(words, l, tables, i));
-    }
-    sum
-}
-
 // What every schedule costs at least by these prices, if there is a bound: overhauls and weeks, less all OFF costs and prices; what units and weeks
 // want is written.
 pub fn solve_relaxation(
@@ -228,5 +202,5 @@ pub fn solve_relaxation(
     if NO_BOUND <= weeks.0 {
         return Euro(NO_BOUND);
     }
-    units.plus(weeks).less(total(words, l, tables))
+    units.plus(weeks).less(tables::sum_total(l, tables))
 }

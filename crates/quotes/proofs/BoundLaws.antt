@@ -8,7 +8,7 @@ use native.Mathlib.Nat.{mul-le-mul-right}
 use native.Mathlib.Omega.{arith}
 use lib.Pow.{pow-mono}
 use Rattle.sums.specs.Logic.{if}
-use Rattle.sums.specs.Sum.{turned}
+use Rattle.sums.specs.Sum.{transposed}
 use Rattle.sums.specs.NumSet.{has}
 use Rattle.sums.proofs.NumSetLaws.{sum-over}
 use Rattle.model.specs.Domain.{permitted}
@@ -24,14 +24,18 @@ use Rattle.model.proofs.FileLaws.{ranged}
 use Rattle.instance.proofs.FiledLaws.{filed}
 use Rattle.sets.specs.Sets.{SETS}
 use Rattle.commitment.proofs.ScoreLaws.{served-small}
-use Rattle.quotes.specs.Quotes.{Quoted, none, quoted, denied, among, pickQuote, runQuote, startQuote, upkeepQuote}
+use Rattle.quotes.specs.Quotes.{Quoted, none, quoted, refusedQuote, among, pickQuote, runQuote, startQuote, upkeepQuote}
 use Rattle.quotes.proofs.QuoteLaws.{among-some, among-most}
 
--- no refusal; the number of a run, and a cost below 2 ^ 24
+-- 2 ^ 24: what a week's run and an overhaul cost lies below it
+abbrev pub QUOTE_LIMIT : ℕ
+QUOTE_LIMIT = 16777216
+
+-- no refusal; the number of a run, and a cost below the limit
 abbrev pub Bounded : Quoted → Type 0
 Bounded none = Unit
-Bounded (quoted number cost) = (number < SETS) × (cost < 16777216)
-Bounded (denied number place) = ⊥
+Bounded (quoted number cost) = (number < SETS) × (cost < QUOTE_LIMIT)
+Bounded (refusedQuote number place) = ⊥
 
 module _ (ws : List ℕ) (e : readOf ws ≡ accepted) where
   -- a week of the file
@@ -59,11 +63,11 @@ module _ (ws : List ℕ) (e : readOf ws ≡ accepted) where
           week-bounded (week - 1) out h (cheapestRun (problemOf ws) (week - 1) (has out)) (cheapest-right (problemOf ws) (week - 1) (has out))
 
   upkeep-small : (i start : ℕ) → i < problemOf ws .units → upkeep (problemOf ws) i start ≤ 13000000
-  unfolding upkeep turned
+  unfolding upkeep transposed
   upkeep-small i start h =
       let p = problemOf ws in
       let g = ranged ws e in
-      let b = sum-over (p .weeks) 250000 (inSpan start (p .duration i)) (turned (p .maint) i) (λ t l. g .maint-most t i l h) in
+      let b = sum-over (p .weeks) 250000 (inSpan start (p .duration i)) (transposed (p .maint) i) (λ t l. g .maint-most t i l h) in
       omega (arith, mul-le-mul-right 250000 (g .weeks-most))
 
   start-bounded : (i start : ℕ) → i < problemOf ws .units → Bounded (startQuote (problemOf ws) i start)

@@ -25,11 +25,11 @@ use Rattle.overhaul.specs.Range.{StartRange}
 use Rattle.decoder.specs.declared.Verdict.{Verdict}
 use Rattle.decoder.specs.declared.Verdict.the-variants.{Accepted, Refused}
 use Rattle.decoder.specs.Answers.{verdictOf}
-use Rattle.commitment.specs.declared.Found.{Found}
-use Rattle.commitment.specs.declared.Found.the-variants.{Nothing, Run}
+use Rattle.commitment.specs.declared.BestRun.{BestRun}
+use Rattle.commitment.specs.declared.BestRun.the-variants.{Nothing, Run}
 use Rattle.commitment.specs.Answers.{Answers}
 use Rattle.commitment.proofs.ScoreLaws.{served-small}
-use Rattle.quotes.specs.Quotes.{Quoted, none, quoted, denied, quoteWith, among, pickQuote, runQuote, startQuote, upkeepQuote}
+use Rattle.quotes.specs.Quotes.{Quoted, none, quoted, refusedQuote, quoteWith, among, pickQuote, runQuote, startQuote, upkeepQuote}
 
 -- ---- one of 1, .., n
 
@@ -66,7 +66,7 @@ module _ (ws : List ℕ) (l : Layout) (week out : ℕ) (f : Filed ws l) where
   unfolding runQuote
   run-beyond h = rw (among-beyond (problemOf ws .weeks) week (rw (f .weeks-are) h))
 
-  module _ (found : Found) (z : week ≡ 0 → ⊥) (h : week ≤ l .weeks) (a : Answers (problemOf ws) (week - 1) (has out) found) where
+  module _ (found : BestRun) (z : week ≡ 0 → ⊥) (h : week ≤ l .weeks) (a : Answers (problemOf ws) (week - 1) (has out) found) where
     inside : among (problemOf ws .weeks) week ≡ true
     inside = among-in (problemOf ws .weeks) week z (rw (f .weeks-are) h)
 
@@ -135,7 +135,7 @@ module _ (ws : List ℕ) (i start first last : ℕ) (range : StartRange (problem
 
 module _ (ws : List ℕ) (v : Verdict) (said : verdictOf v ≡ readOf ws) where
   -- its refusal
-  pub quote-refused : (number place : ℕ) (q : Quoted) → v ≡ Refused number place → denied number place ≡ quoteWith (readOf ws) q
+  pub quote-refused : (number place : ℕ) (q : Quoted) → v ≡ Refused number place → refusedQuote number place ≡ quoteWith (readOf ws) q
   unfolding quoteWith
   quote-refused number place q e = let r : refused number place ≡ readOf ws = rw e at said in rw (← r)
 

@@ -8,4 +8,4 @@ use Rattle.quotes.specs.declared.Quote.the-variants.{Nothing, Given, Ref
 abbrev pub quotedOf : Quote → quotes.Quoted
 quotedOf Nothing = quotes.none
 quotedOf (Given number cost) = quotes.quoted number cost
-quotedOf (Refused number place) = quotes.denied number place
+quotedOf (Refused number place) = quotes.refusedQuote number place

@@ -22,12 +22,12 @@ use Rattle.model.specs.Reading.{readOf}
 pub data Quoted : Type 0 where
   none : Quoted
   quoted : ℕ → ℕ → Quoted
-  denied : ℕ → ℕ → Quoted
+  refusedQuote : ℕ → ℕ → Quoted
 
 -- the file's refusal, or what is said of an accepted file
 unfoldable pub quoteWith : Verdict → Quoted → Quoted
 quoteWith accepted q = q
-quoteWith (refused number place) q = denied number place
+quoteWith (refused number place) q = refusedQuote number place
 
 -- k is one of 1, .., n
 unfoldable pub among : ℕ → ℕ → Bool

@@ -37,8 +37,8 @@ fn filed_run(words: &[u32], l: Layout, week: usize, out: u32) -> Quote
     }
     let found = commitment::cheapest(words, l, week - 1, out);
     match found {
-        commitment::Found::Nothing => Quote::Nothing,
-        commitment::Found::Run(run, cost) => Quote::Given(run, cost.0 as u32),
+        commitment::BestRun::Nothing => Quote::Nothing,
+        commitment::BestRun::Run(run, cost) => Quote::Given(run, cost.0 as u32),
     }
 }
 
@@ -128,8 +128,13 @@ fn write(words: &[u32], l: Layout, queries: &[u32], scratch: &mut [u32], costs: 
 
 // Writes what the cheapest run of each queried week costs with the queried units out, NO_RUN where there is none, into the lent words and keeps
 // any beyond; or refuses and changes nothing: the file's refusal, then 17 where the words are fewer than the queries. The scratch may have any
-// length and hold anything.
-pub fn week_costs(words: &[u32], queries: &[u32], scratch: &mut [u32], costs: &mut [u32]) -> Verdict
+// length and hold anything (D51).
+pub fn quote_weeks(
+    words: &[u32],
+    queries: &[u32],
+    scratch: &mut [u32],
+    costs: &mut [u32],
+) -> Verdict
     ensures answer { λ r. ⌜ verdictOf r ≡ costsVerdict (now (words .entry)) (length (now (queries .entry))) (length (now (costs .entry))) ⌝ }
     ensures buffer { λ r. ⌜ now (costs .exit) ≡
         costsInto (verdictOf r) (problemOf (now (words .entry))) (now (queries .entry)) (now (costs .entry)) ⌝ }

@@ -21,13 +21,13 @@ use Rattle.model.specs.Plan.{Compatible}
 use Rattle.model.proofs.CommitmentLaws.{fewer-out}
 use Rattle.blame.specs.Priced.{WeekLeast}
 use Rattle.blame.proofs.BoundLaws.{least-below}
-use Rattle.relaxation.specs.Choosing.{notOut, Reach, Floor, Barred, Needless}
+use Rattle.relaxation.specs.Choosing.{pricesNotOut, Reach, Floor, Barred, Needless}
 use Rattle.relaxation.proofs.OutLaws.{Joins, joins-it, joins-old, joins-sub, not-out-joined, not-out-above, headcount-joined, compatible-fewer}
 
 module _ (p : Problem) (u : ℕ → ℕ → ℕ) (t : ℕ) where
   -- nothing can be gained where the prices of the units below k cannot pay
-  pub floor-cut : (o : NumSet) (k low left : ℕ) → k ≤ p .units → notOut u t o k ≤ left
-      → low + left ≤ fullLeast p t o + notOut u t o (p .units) → Floor p u t o k low
+  pub floor-cut : (o : NumSet) (k low left : ℕ) → k ≤ p .units → pricesNotOut u t o k ≤ left
+      → low + left ≤ fullLeast p t o + pricesNotOut u t o (p .units) → Floor p u t o k low
   floor-cut o k low left le spare cut = record {
     below = λ x r c reach s. omega (
       arith,
@@ -37,13 +37,13 @@ module _ (p : Problem) (u : ℕ → ℕ → ℕ) (t : ℕ) where
   }
 
   -- the set itself
-  pub floor-own : (o : NumSet) (v : ℕ) → v ≤ fullLeast p t o + notOut u t o (p .units) → Floor p u t o 0 v
-  unfolding notOut sumTo
+  pub floor-own : (o : NumSet) (v : ℕ) → v ≤ fullLeast p t o + pricesNotOut u t o (p .units) → Floor p u t o 0 v
+  unfolding pricesNotOut sumTo
   floor-own o v l = floor-cut o 0 v 0 (omega arith) (omega arith) (omega arith)
 
   -- with all units it is the week's
   pub floor-week : (o : NumSet) (n v : ℕ) → p .units ≤ n → Floor p u t o n v → WeekLeast p u t o v
-  unfolding notOut
+  unfolding pricesNotOut
   floor-week o n v l f = record {
     below = λ x r c all s. f .below x r c (record { all = all; same = λ i a b. absurd (omega arith) }) s;
   }
@@ -59,12 +59,12 @@ module _ (p : Problem) (u : ℕ → ℕ → ℕ) (t : ℕ) where
   module _ (o : NumSet) (i low : ℕ) (floor : Floor p u t o i low) where
     -- one unit more: the sets without it, and those with it
     join : (r : ℕ) → r ≤ low
-        → ((x : NumSet) (z : ℕ) → Compatible p x → Reach p o (i + 1) x → x i ≡ true → Serves p t x z → r ≤ fullCost p t z + notOut u t x (p .units))
+        → ((x : NumSet) (z : ℕ) → Compatible p x → Reach p o (i + 1) x → x i ≡ true → Serves p t x z → r ≤ fullCost p t z + pricesNotOut u t x (p .units))
         → Floor p u t o (i + 1) r
     join r l taken = record { below = λ x z c reach s. by x z c reach s (x i) refl }
       where
         by : (x : NumSet) (z : ℕ) → Compatible p x → Reach p o (i + 1) x → Serves p t x z → (b : Bool) → x i ≡ b
-            → r ≤ fullCost p t z + notOut u t x (p .units)
+            → r ≤ fullCost p t z + pricesNotOut u t x (p .units)
         by x z c reach s true e = taken x z c reach e s
         by x z c reach s false e =
             omega (arith, floor .below x z c (reach-down o x i (λ y. true-false (sym y ∙ e)) reach) s)
@@ -82,7 +82,7 @@ module _ (p : Problem) (u : ℕ → ℕ → ℕ) (t : ℕ) where
     pass-free l out free = join low (omega arith) (λ x z c reach e s. by x z c reach e s (λ k. x k && not (eqb k i)) (λ k. refl))
       where
         by : (x : NumSet) (z : ℕ) → Compatible p x → Reach p o (i + 1) x → x i ≡ true → Serves p t x z → (y : NumSet)
-            → ((k : ℕ) → y k ≡ (x k && not (eqb k i))) → low ≤ fullCost p t z + notOut u t x (p .units)
+            → ((k : ℕ) → y k ≡ (x k && not (eqb k i))) → low ≤ fullCost p t z + pricesNotOut u t x (p .units)
         by x z c reach e s y is = omega (
           arith,
           free,

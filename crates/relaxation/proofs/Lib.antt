@@ -1,4 +1,4 @@
--- what a week is worth, and a memory of it
+-- what a week is worth, and a memo of it
 pub mod ValueLaws
 -- sets of units out: prices of the others, and who may be out together
 mod OutLaws

@@ -11,7 +11,7 @@ use lib.Dec.{eqb}
 use borrow.Author.Tests.{eq-eqb, ne-eqb}
 use Rattle.sums.specs.Logic.{if}
 use Rattle.sums.specs.Sum.{sumTo, countsOne}
-use Rattle.sums.specs.NumSet.{NumSet, pick, away}
+use Rattle.sums.specs.NumSet.{NumSet, onlyIn, complement}
 use Rattle.sums.proofs.LogicLaws.{true-false, or-left, or-right, or-last-false, not-at, not-of, not-so}
 use Rattle.sums.proofs.NumSetLaws.{sum-subset, sum-joined}
 use Rattle.model.specs.Problem.{Problem}
@@ -19,7 +19,7 @@ use Rattle.model.specs.Rules.{headcount}
 use Rattle.model.specs.Pairs.{apart}
 use Rattle.model.specs.Plan.{Compatible}
 use Rattle.blame.proofs.PairLaws.{PairOf, apart-pair}
-use Rattle.relaxation.specs.Choosing.{notOut, Barred, Needless}
+use Rattle.relaxation.specs.Choosing.{pricesNotOut, Barred, Needless}
 
 -- ---- sets and sums
 
@@ -50,15 +50,15 @@ joins-sub o q i n j x all it k l e = by (ℕ-discrete k i)
     by (no z) = all k l (sym (joins-other o q i j k z) ∙ e)
 
 -- the more units are out, the less the prices of the others come to
-pub not-out-less : (u : ℕ → ℕ → ℕ) (t : ℕ) (a b : NumSet) (k : ℕ) → ((i : ℕ) → i < k → a i ≡ true → b i ≡ true) → notOut u t b k ≤ notOut u t a k
-unfolding notOut away
+pub not-out-less : (u : ℕ → ℕ → ℕ) (t : ℕ) (a b : NumSet) (k : ℕ) → ((i : ℕ) → i < k → a i ≡ true → b i ≡ true) → pricesNotOut u t b k ≤ pricesNotOut u t a k
+unfolding pricesNotOut complement
 not-out-less u t a b k h =
-    sum-subset k (away b) (away a) (u t) (λ i l e. not-of (a i) (not-so (a i) (λ x. true-false (sym (h i l x) ∙ not-at (b i) e))))
+    sum-subset k (complement b) (complement a) (u t) (λ i l e. not-of (a i) (not-so (a i) (λ x. true-false (sym (h i l x) ∙ not-at (b i) e))))
 
 -- by its price, where it is one unit more
-pub not-out-joined : (u : ℕ → ℕ → ℕ) (t : ℕ) (o q : NumSet) (i n : ℕ) → i < n → o i ≡ false → Joins o i q → notOut u t o n ≡ notOut u t q n + u t i
-unfolding notOut away
-not-out-joined u t o q i n l e j = sum-joined n i (away q) (away o) (u t) l (ap not (joins-it o q i j)) (λ k. by k (ℕ-discrete k i))
+pub not-out-joined : (u : ℕ → ℕ → ℕ) (t : ℕ) (o q : NumSet) (i n : ℕ) → i < n → o i ≡ false → Joins o i q → pricesNotOut u t o n ≡ pricesNotOut u t q n + u t i
+unfolding pricesNotOut complement
+not-out-joined u t o q i n l e j = sum-joined n i (complement q) (complement o) (u t) l (ap not (joins-it o q i j)) (λ k. by k (ℕ-discrete k i))
   where
     by : (k : ℕ) → Dec (k ≡ i) → not (o k) ≡ (not (q k) || eqb k i)
     by k (yes z) = ap not (ap o z ∙ e) ∙ sym (or-right (not (q k)) (eqb k i) (eq-eqb k i z))
@@ -80,9 +80,9 @@ sum-above k (suc n) f g le h =
 
 -- sets that have the same units from k on
 pub not-out-above : (u : ℕ → ℕ → ℕ) (t : ℕ) (o x : NumSet) (k n : ℕ) → k ≤ n → ((i : ℕ) → k ≤ i → i < n → x i ≡ true → o i ≡ true)
-    → notOut u t o n ≤ notOut u t x n + notOut u t o k
-unfolding notOut away pick
-not-out-above u t o x k n le same = sum-above k n (pick (away o) (u t)) (pick (away x) (u t)) le (λ i a b. by i (o i) (x i) (same i a b))
+    → pricesNotOut u t o n ≤ pricesNotOut u t x n + pricesNotOut u t o k
+unfolding pricesNotOut complement onlyIn
+not-out-above u t o x k n le same = sum-above k n (onlyIn (complement o) (u t)) (onlyIn (complement x) (u t)) le (λ i a b. by i (o i) (x i) (same i a b))
   where
     by : (i : ℕ) (a b : Bool) → (b ≡ true → a ≡ true) → if (not a) (u t i) 0 ≤ if (not b) (u t i) 0
     by i true b e = omega arith

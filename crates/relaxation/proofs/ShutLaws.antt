@@ -9,10 +9,9 @@ use native.Mathlib.Numerals.{add-one}
 use native.Mathlib.Decide.{ℕ-discrete}
 use native.Mathlib.Omega.{arith}
 use lib.Dec.{eqb}
-use lib.ListN.{getD}
 use borrow.Author.Tests.{eq-eqb, eqb-true}
 use Rattle.sums.specs.Sum.{sumTo, countsOne}
-use Rattle.sums.specs.NumSet.{NumSet, pick, has}
+use Rattle.sums.specs.NumSet.{NumSet, onlyIn, has}
 use Rattle.sums.proofs.LogicLaws.{true-false, or-left, or-right}
 use Rattle.sums.proofs.NumSetLaws.{zero-has}
 use Rattle.model.specs.declared.Layout.{Layout}
@@ -20,16 +19,15 @@ use Rattle.model.specs.Problem.{Problem}
 use Rattle.model.specs.Rules.{headcount}
 use Rattle.model.specs.Words.{problemOf}
 use Rattle.instance.specs.Filed.{Filed}
-use Rattle.instance.proofs.FiledLaws.{units-are}
 use Rattle.tables.specs.Tables.{priceIn, partnersIn, PartnersOf, Priced}
-use Rattle.relaxation.specs.Choosing.{Needless, Shut, Roomed}
+use Rattle.relaxation.specs.Choosing.{Needless, NeedlessUnits, CrewsLeft}
 use Rattle.relaxation.proofs.OutLaws.{apart-barred}
 
 -- ---- the room that crews leave
 
 -- a unit that is out takes one
-pub room-taken : (o : NumSet) (i room : ℕ) (b : Bool) → b ≡ o i → b ≡ true → 0 < room → room ≤ room - 1 + pick o countsOne i
-unfolding pick countsOne
+pub room-taken : (o : NumSet) (i room : ℕ) (b : Bool) → b ≡ o i → b ≡ true → 0 < room → room ≤ room - 1 + onlyIn o countsOne i
+unfolding onlyIn countsOne
 room-taken o i room b is e l = rw (← is, e) (omega arith)
 
 -- all crews
@@ -43,12 +41,12 @@ unfolding sumTo
 room-next p f i room r h l = rw add-one (omega arith)
 
 -- all of them
-pub room-ended : (ws : List ℕ) (l : Layout) (o : NumSet) (i room : ℕ) → Filed ws l → problemOf ws .crews ≤ sumTo i (pick o countsOne) + room
-    → i ≤ l .units → l .units ≤ i → Roomed (problemOf ws) o room
+pub room-ended : (ws : List ℕ) (l : Layout) (o : NumSet) (i room : ℕ) → Filed ws l → problemOf ws .crews ≤ sumTo i (onlyIn o countsOne) + room
+    → i ≤ l .units → l .units ≤ i → CrewsLeft (problemOf ws) o room
 unfolding headcount
 room-ended ws l o i room f h le ge =
-    let e : i ≡ problemOf ws .units = omega (arith, units-are ws l f) in
-    record { most = subst (λ (k : ℕ). problemOf ws .crews ≤ sumTo k (pick o countsOne) + room) e h }
+    let e : i ≡ problemOf ws .units = omega (arith, f .units-are) in
+    record { most = subst (λ (k : ℕ). problemOf ws .crews ≤ sumTo k (onlyIn o countsOne) + room) e h }
 
 -- ---- the units that need no try
 
@@ -78,7 +76,7 @@ more-of s c r i is k (inl h) = is k ∙ or-left (has s k || eqb k i) (has c k) (
 more-of s c r i is k (inr z) = is k ∙ or-left (has s k || eqb k i) (has c k) (or-right (has s k) (eqb k i) (eq-eqb k i z))
 
 -- none yet
-pub shut-start : (p : Problem) (u : ℕ → ℕ → ℕ) (t : ℕ) (o : NumSet) → Shut p u t o 0 0
+pub shut-start : (p : Problem) (u : ℕ → ℕ → ℕ) (t : ℕ) (o : NumSet) → NeedlessUnits p u t o 0 0
 shut-start p u t o = record { needless = λ i l e. true-false (sym e ∙ zero-has i); own = λ i l e. absurd (omega arith) }
 
 -- a unit that is out, and its partners
@@ -93,13 +91,13 @@ shut-joined p u t o i s c r old l it partners is k m e = by (more-at s c r i is 
     by (inr (inr h)) = inr (inr (apart-barred p o i k l it (sym (partners .sets k) ∙ h)))
 
 module _ (ws xs : List ℕ) (l : Layout) (t out i s r : ℕ) (f : Filed ws l) (h : i < l .units)
-    (old : Shut (problemOf ws) (priceIn xs) t (has out) i s) where
+    (old : NeedlessUnits (problemOf ws) (priceIn xs) t (has out) i s) where
   inside : i < problemOf ws .units
-  inside = omega (arith, units-are ws l f)
+  inside = omega (arith, f .units-are)
 
   -- unit i is out
   pub shut-out : (b : Bool) (c : ℕ) → b ≡ has out i → b ≡ true → Priced (problemOf ws) xs → c ≡ partnersIn xs i
-      → ((k : ℕ) → has r k ≡ ((has s k || eqb k i) || has c k)) → Shut (problemOf ws) (priceIn xs) t (has out) (i + 1) r
+      → ((k : ℕ) → has r k ≡ ((has s k || eqb k i) || has c k)) → NeedlessUnits (problemOf ws) (priceIn xs) t (has out) (i + 1) r
   shut-out b c is e priced own more = record {
     needless =
         shut-joined (problemOf ws) (priceIn xs) t (has out) i s c r (old .needless) inside (sym is ∙ e) (rw own (priced .partners .each i inside)) more;
@@ -120,7 +118,7 @@ module _ (ws xs : List ℕ) (l : Layout) (t out i s r : ℕ) (f : Filed ws l) (h
 
   -- its price is 0
   pub shut-free : (b : Bool) (own : ℕ) → b ≡ has out i → b ≡ false → own ≡ priceIn xs t i → own ≡ 0
-      → ((k : ℕ) → has r k ≡ (has s k || eqb k i)) → Shut (problemOf ws) (priceIn xs) t (has out) (i + 1) r
+      → ((k : ℕ) → has r k ≡ (has s k || eqb k i)) → NeedlessUnits (problemOf ws) (priceIn xs) t (has out) (i + 1) r
   shut-free b own is e price zero more = record {
     needless = λ k m z. by k m z (has s k) refl;
     own = λ k m z. more k ∙ or-left (has s k) (eqb k i) (lower b is e k m z);
@@ -133,12 +131,12 @@ module _ (ws xs : List ℕ) (l : Layout) (t out i s r : ℕ) (f : Filed ws l) (h
           inr (inl (ap (priceIn xs t) (eqb-true k i y) ∙ sym price ∙ zero))
 
   -- neither
-  pub shut-kept : (b : Bool) → b ≡ has out i → b ≡ false → Shut (problemOf ws) (priceIn xs) t (has out) (i + 1) s
+  pub shut-kept : (b : Bool) → b ≡ has out i → b ≡ false → NeedlessUnits (problemOf ws) (priceIn xs) t (has out) (i + 1) s
   shut-kept b is e = record { needless = old .needless; own = lower b is e }
 
 -- all of them
-pub shut-ended : (ws : List ℕ) (l : Layout) (u : ℕ → ℕ → ℕ) (t i s : ℕ) (o : NumSet) → Filed ws l → Shut (problemOf ws) u t o i s → i ≤ l .units
-    → l .units ≤ i → Shut (problemOf ws) u t o (problemOf ws .units) s
+pub shut-ended : (ws : List ℕ) (l : Layout) (u : ℕ → ℕ → ℕ) (t i s : ℕ) (o : NumSet) → Filed ws l → NeedlessUnits (problemOf ws) u t o i s → i ≤ l .units
+    → l .units ≤ i → NeedlessUnits (problemOf ws) u t o (problemOf ws .units) s
 shut-ended ws l u t i s o f h le ge =
-    let e : i ≡ problemOf ws .units = omega (arith, units-are ws l f) in
-    subst (λ (k : ℕ). Shut (problemOf ws) u t o k s) e h
+    let e : i ≡ problemOf ws .units = omega (arith, f .units-are) in
+    subst (λ (k : ℕ). NeedlessUnits (problemOf ws) u t o k s) e h

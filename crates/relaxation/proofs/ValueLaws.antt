@@ -1,4 +1,4 @@
--- What a week is worth, and a memory of such values: emptied, found, written, and left alone by others.
+-- What a week is worth, and a memo of such values: emptied, found, written, and left alone by others.
 -- Assumes nothing.
 use Prim.Native.Nat.{ℕ, _+_, _*_, _≤_, _<_}
 use mathlib.Core.Path.{_≡_, sym, _∙_, subst}
@@ -7,6 +7,7 @@ use native.Mathlib.Nat.{mul-le-mul-right}
 use native.Mathlib.Omega.{arith}
 use lib.ListN.{getD, replicate}
 use Rattle.sums.specs.NumSet.{NumSet, has}
+use Rattle.sets.specs.Sets.{SETS}
 use Rattle.model.specs.declared.Layout.{Layout}
 use Rattle.model.specs.Problem.{Problem}
 use Rattle.model.specs.Words.{problemOf}
@@ -14,16 +15,16 @@ use Rattle.model.specs.Commitment.{Pick, nothing, picked, cheapestRun, NO_RUN, 
 use Rattle.model.proofs.CommitmentLaws.{full-lacks}
 use Rattle.instance.specs.Filed.{Filed}
 use Rattle.commitment.proofs.ScoreLaws.{run-small}
-use Rattle.memo.specs.declared.Kept.{Kept}
-use Rattle.memo.specs.declared.Kept.the-variants.{Word}
+use Rattle.memo.specs.declared.Stored.{Stored}
+use Rattle.memo.specs.declared.Stored.the-variants.{Word}
 use Rattle.memo.specs.Memo.{Entry, Present, Looked, Wrote, OTHERS, Others, keyOf, Right}
 use Rattle.memo.proofs.EntryLaws.{empty-key, right-empty, right-kept, wrote-all}
 use Rattle.blame.specs.Priced.{WeekLeast}
 use Rattle.blame.proofs.BoundLaws.{week-plain}
-use Rattle.tables.specs.Tables.{MOST_PRICE, priceIn}
-use Rattle.relaxation.specs.Relaxed.{WeekAt, Value, valueKey, Values, Recalls}
-use Rattle.relaxation.specs.declared.Node.{Node}
-use Rattle.relaxation.specs.Choosing.{notOut, Floor, Begun}
+use Rattle.tables.specs.Tables.{MOST_PRICE, MOST_WEEK_PRICES, priceIn}
+use Rattle.relaxation.specs.Relaxed.{WeekAt, Value, valueKey, MemoValues, MemoTrue}
+use Rattle.relaxation.specs.declared.WeekNode.{WeekNode}
+use Rattle.relaxation.specs.Choosing.{pricesNotOut, Floor, RootNode}
 use Rattle.relaxation.proofs.LeftLaws.{not-out-small}
 use Rattle.relaxation.proofs.FloorLaws.{floor-week}
 
@@ -52,13 +53,13 @@ run-cheap ws l t a f h = by (cheapestRun (problemOf ws) t a)
     by (picked r) b = run-small ws l t f h r
 
 -- a lower bound for all sets is one too, where there is a run; prices cannot bring it to what stands for none
-pub value-chosen : (ws xs : List ℕ) (l : Layout) (t out cost v : ℕ) (y : Node) → WeekAt ws l xs t → cost ≡ fullLeast (problemOf ws) t (has out)
-    → cost < NO_RUN → Begun (problemOf ws) (priceIn xs) t out cost y → v ≤ y .value .0
-    → Floor (problemOf ws) (priceIn xs) t (has (y .out)) (l .units) v → Value (problemOf ws) (priceIn xs) t (has out) v
+pub value-chosen : (ws xs : List ℕ) (l : Layout) (t out cost v : ℕ) (y : WeekNode) → WeekAt ws l xs t → cost ≡ fullLeast (problemOf ws) t (has out)
+    → cost < NO_RUN → RootNode (problemOf ws) (priceIn xs) t out cost y → v ≤ y .value .0
+    → Floor (problemOf ws) (priceIn xs) (y .week) (has (y .out)) (l .units) v → Value (problemOf ws) (priceIn xs) t (has out) v
 value-chosen ws xs l t out cost v y at e less begun low floor =
     record {
       least = subst (λ (o : ℕ). WeekLeast p u t (has o) v) (begun .same)
-          (floor-week p u t (has (y .out)) (l .units) v (omega (arith, f .units-are)) floor);
+          (floor-week p u t (has (y .out)) (l .units) v (omega (arith, f .units-are)) (rw (begun .week) at floor));
       small = omega (arith, cheap, few, begun .value);
       none = λ x. absurd (omega (arith, cheap, few, begun .value));
       serves = λ x. omega arith;
@@ -76,12 +77,12 @@ value-chosen ws xs l t out cost v y at e less begun low floor =
     cheap : fullLeast p t (has out) ≤ 4000000
     cheap = run-cheap ws l t (has out) f (at .week) (omega arith)
 
-    few : notOut u t (has out) (p .units) ≤ 67108864
+    few : pricesNotOut u t (has out) (p .units) ≤ MOST_WEEK_PRICES
     few =
         let most : p .units ≤ 16 = omega (arith, f .units-are, f .units-most) in
         omega (arith, not-out-small xs t (has out) (p .units) (at .priced .prices), mul-le-mul-right MOST_PRICE most)
 
--- ---- a memory of values
+-- ---- a memo of values
 
 -- their keys are another's
 key-above : (t out : ℕ) → OTHERS < valueKey t out
@@ -89,31 +90,31 @@ unfolding valueKey keyOf
 key-above t out = omega arith
 
 -- and tell the week and the set
-keys-same : (t out t′ out′ : ℕ) → out < 65536 → out′ < 65536 → valueKey t out ≡ valueKey t′ out′ → (t ≡ t′) × (out ≡ out′)
+keys-same : (t out t′ out′ : ℕ) → out < SETS → out′ < SETS → valueKey t out ≡ valueKey t′ out′ → (t ≡ t′) × (out ≡ out′)
 unfolding valueKey keyOf
 keys-same t out t′ out′ b b′ e = (omega arith, omega arith)
 
--- an emptied memory recalls whatever the prices
-pub recalls-empty : (p : Problem) (u : ℕ → ℕ → ℕ) (memo : List ℕ) (n : ℕ) → memo ≡ replicate n 0 → Recalls p u memo
+-- an emptied memo recalls whatever the prices
+pub recalls-empty : (p : Problem) (u : ℕ → ℕ → ℕ) (memo : List ℕ) (n : ℕ) → memo ≡ replicate n 0 → MemoTrue p u memo
 recalls-empty p u memo n is = record {
   costs = right-empty p memo n is;
   values = record { holds = λ e t out b z. absurd (omega (arith, z, empty-key memo n e is, key-above t out)) };
 }
 
 -- entries under another's key that are left alone keep their values
-pub values-others : (p : Problem) (u : ℕ → ℕ → ℕ) (memo memo′ : List ℕ) → Values p u memo → Others memo memo′ → Values p u memo′
+pub values-others : (p : Problem) (u : ℕ → ℕ → ℕ) (memo memo′ : List ℕ) → MemoValues p u memo → Others memo memo′ → MemoValues p u memo′
 values-others p u memo memo′ v same = record { holds = λ e t out b z. by e t out b z (same .same e (omega (arith, z, key-above t out))) }
   where
-    by : (e t out : ℕ) → out < 65536 → getD memo′ (e * 2) 0 ≡ valueKey t out → Entry memo e (getD memo′ (e * 2) 0) (getD memo′ (e * 2 + 1) 0)
+    by : (e t out : ℕ) → out < SETS → getD memo′ (e * 2) 0 ≡ valueKey t out → Entry memo e (getD memo′ (e * 2) 0) (getD memo′ (e * 2 + 1) 0)
         → Value p u t (has out) (getD memo′ (e * 2 + 1) 0)
     by e t out b z old = subst (Value p u t (has out)) (old .kept) (v .holds e t out b (old .under ∙ z))
 
--- so a memory recalls after a change that is right and leaves them alone
-pub recalls-others : (p : Problem) (u : ℕ → ℕ → ℕ) (memo memo′ : List ℕ) → Recalls p u memo → Right p memo′ → Others memo memo′ → Recalls p u memo′
+-- so a memo recalls after a change that is right and leaves them alone
+pub recalls-others : (p : Problem) (u : ℕ → ℕ → ℕ) (memo memo′ : List ℕ) → MemoTrue p u memo → Right p memo′ → Others memo memo′ → MemoTrue p u memo′
 recalls-others p u memo memo′ r right same = record { costs = right; values = values-others p u memo memo′ (r .values) same }
 
 -- what is found under a value's key
-pub value-found : (p : Problem) (u : ℕ → ℕ → ℕ) (memo : List ℕ) (t out key v : ℕ) (found : Kept) → Recalls p u memo → out < 65536
+pub value-found : (p : Problem) (u : ℕ → ℕ → ℕ) (memo : List ℕ) (t out key v : ℕ) (found : Stored) → MemoTrue p u memo → out < SETS
     → key ≡ valueKey t out → Looked memo key found → found ≡ Word v → Value p u t (has out) v
 value-found p u memo t out key v found r b k looked is =
     let h : Present memo key v = subst (Looked memo key) is looked in
@@ -121,11 +122,11 @@ value-found p u memo t out key v found r b k looked is =
 
 -- what an entry says of a value
 abbrev Says : Problem → (ℕ → ℕ → ℕ) → ℕ → ℕ → Type 0
-Says p u k w = (t out : ℕ) → out < 65536 → k ≡ valueKey t out → Value p u t (has out) w
+Says p u k w = (t out : ℕ) → out < SETS → k ≡ valueKey t out → Value p u t (has out) w
 
 -- a value written under its key; keys tell the week and the set
-pub recalls-put : (p : Problem) (u : ℕ → ℕ → ℕ) (memo memo′ new : List ℕ) (t out key v : ℕ) → Recalls p u memo → Right p memo′ → Others memo memo′
-    → out < 65536 → key ≡ valueKey t out → Wrote memo′ new key v → Value p u t (has out) v → Recalls p u new
+pub recalls-put : (p : Problem) (u : ℕ → ℕ → ℕ) (memo memo′ new : List ℕ) (t out key v : ℕ) → MemoTrue p u memo → Right p memo′ → Others memo memo′
+    → out < SETS → key ≡ valueKey t out → Wrote memo′ new key v → Value p u t (has out) v → MemoTrue p u new
 recalls-put p u memo memo′ new t out key v r right same b k wrote value = record {
   costs = right-kept p memo′ new key v right wrote (omega (arith, key-above t out));
   values = record { holds = wrote-all (Says p u) memo′ new key v wrote (values-others p u memo memo′ (r .values) same .holds) it };

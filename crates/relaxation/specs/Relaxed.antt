@@ -35,10 +35,10 @@ unfolding keyOf
 valueKey t out = keyOf t out + OTHERS
 
 -- an entry under such a key has such a value
-pub record Values (p : Problem) (u : ℕ → ℕ → ℕ) (memo : List ℕ) : Type 0 where
+pub record MemoValues (p : Problem) (u : ℕ → ℕ → ℕ) (memo : List ℕ) : Type 0 where
   pub holds : (e t out : ℕ) → out < SETS → getD memo (e * 2) 0 ≡ valueKey t out → Value p u t (has out) (getD memo (e * 2 + 1) 0)
 
--- a memory of least costs, and of values at these prices
-pub record Recalls (p : Problem) (u : ℕ → ℕ → ℕ) (memo : List ℕ) : Type 0 where
+-- a memo of least costs, and of values at these prices
+pub record MemoTrue (p : Problem) (u : ℕ → ℕ → ℕ) (memo : List ℕ) : Type 0 where
   pub costs : Right p memo
-  pub values : Values p u memo
+  pub values : MemoValues p u memo

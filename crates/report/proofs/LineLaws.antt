@@ -1,33 +1,36 @@
 -- The parts of a line, put one after another.
 -- Assumes nothing.
 use Prim.Native.Nat.{ℕ, suc, _+_, _*_, _≤_, _<_}
-use mathlib.Core.Path.{_≡_, subst}
+use mathlib.Core.Path.{_≡_, sym, subst}
 use mathlib.Core.List.{List, [], _∷_, _++_}
-use native.Mathlib.Nat.{mul-le-mul-right, add-mul, one-mul}
+use native.Mathlib.Nat.{mul-le-mul, mul-le-mul-right, add-mul, one-mul}
 use native.Mathlib.Numerals.{add-one}
 use native.Mathlib.Omega.{arith}
 use lib.ListN.{length, getD}
+use mir.Syntax.{w64}
+use mir.Val.{Fits}
 use borrow.Author.Tests.{eq-eqb, ne-eqb}
 use Rattle.model.specs.Lines.{askWord, refusedWord, planWord, noneWord, bestWord, spentWord, startsWord, runWord, markWord, soundWord, ruleWord}
 use Rattle.model.specs.Lines.{numberText, wordsText, scheduleText, markText, bestText, blockText, lineText, linesText, refusalText, soundText, ruleText}
+use Rattle.shape.specs.Shape.{COST_PLACE, START_PLACE, runsAt, markAt, blockSize}
 use Rattle.report.specs.Lengths.{STARTS, SCHEDULE, MARK, BLOCK, LINE, TEXT}
 use Rattle.report.specs.Parts.{startsText, spentText}
 use Rattle.report.specs.Put.{Put, Whole, Listed}
 use Rattle.report.proofs.PutLaws.{put-nothing, put-join, put-most}
 
 -- the cost and the starts
-pub starts-put : (ws : List ℕ) (b u : ℕ) (d d₁ d₂ d₃ : List ℕ) (at k₁ k₂ r x : ℕ) → u ≤ 16 → at + STARTS ≤ length d → x ≡ getD ws (b + 1) 0
-    → Put d d₁ at k₁ 21 (numberText x) → Put d₁ d₂ k₁ k₂ 7 startsWord → Put d₂ d₃ k₂ r (21 * u) (wordsText ws (b + 2) u)
+pub starts-put : (ws : List ℕ) (b u : ℕ) (d d₁ d₂ d₃ : List ℕ) (at k₁ k₂ r x : ℕ) → u ≤ 16 → at + STARTS ≤ length d → x ≡ getD ws (b + COST_PLACE) 0
+    → Put d d₁ at k₁ 21 (numberText x) → Put d₁ d₂ k₁ k₂ 7 startsWord → Put d₂ d₃ k₂ r (21 * u) (wordsText ws (b + START_PLACE) u)
     → Put d d₃ at r STARTS (startsText ws b u)
 unfolding startsText
 starts-put ws b u d d₁ d₂ d₃ at k₁ k₂ r x few room is f₁ f₂ f₃ =
     let low : at ≤ length d = omega arith in
     let most : 21 + 7 + 21 * u ≤ STARTS = omega arith in
-    let c = numberText (getD ws (b + 1) 0) in
+    let c = numberText (getD ws (b + COST_PLACE) 0) in
     let own : Put d d₁ at k₁ 21 c = rw is at f₁ in
     let two = put-join d d₁ d₂ at k₁ k₂ 21 7 c startsWord low own f₂ in
     put-most d d₃ at r (21 + 7 + 21 * u) STARTS (startsText ws b u)
-    (put-join d d₂ d₃ at k₂ r (21 + 7) (21 * u) (c ++ startsWord) (wordsText ws (b + 2) u) low two f₃)
+    (put-join d d₂ d₃ at k₂ r (21 + 7) (21 * u) (c ++ startsWord) (wordsText ws (b + START_PLACE) u) low two f₃)
     most
 
 -- " spent" and the mark
@@ -41,24 +44,29 @@ spent-put ws b u w d d₁ d₂ at k r room f g =
 
 module _ (ws : List ℕ) (b u w : ℕ) (whole : Whole (length ws) b u w) where
   -- " mark" and its starts
-  pub mark-put : (d d₁ d₂ : List ℕ) (at k r : ℕ) → at + MARK ≤ length d → Put d d₁ at k 5 markWord → Put d₁ d₂ k r (21 * u) (wordsText ws (b + 2 + u + w) u)
-      → Put d d₂ at r MARK (markText ws b u w)
+  pub mark-put : (d d₁ d₂ : List ℕ) (at k r mark : ℕ) → mark ≡ markAt u w → at + MARK ≤ length d → Put d d₁ at k 5 markWord
+      → Put d₁ d₂ k r (21 * u) (wordsText ws (b + mark) u) → Put d d₂ at r MARK (markText ws b u w)
   unfolding markText
-  mark-put d d₁ d₂ at k r room f g =
+  mark-put d d₁ d₂ at k r mark is room f g =
       let low : at ≤ length d = omega arith in
       let most : 5 + 21 * u ≤ MARK = omega (arith, whole .units) in
-      put-most d d₂ at r (5 + 21 * u) MARK (markText ws b u w) (put-join d d₁ d₂ at k r 5 (21 * u) markWord (wordsText ws (b + 2 + u + w) u) low f g) most
+      let place : b + mark ≡ b + 2 + u + w = omega arith in
+      let starts = subst (λ (q : ℕ). Put d₁ d₂ k r (21 * u) (wordsText ws q u)) place g in
+      put-most d d₂ at r (5 + 21 * u) MARK (markText ws b u w) (put-join d d₁ d₂ at k r 5 (21 * u) markWord (wordsText ws (b + 2 + u + w) u) low f starts) most
 
   -- the cost and the starts, the runs
-  pub schedule-put : (d d₁ d₂ d₃ : List ℕ) (at k₁ k₂ r : ℕ) → at + SCHEDULE ≤ length d → Put d d₁ at k₁ STARTS (startsText ws b u)
-      → Put d₁ d₂ k₁ k₂ 4 runWord → Put d₂ d₃ k₂ r (21 * w) (wordsText ws (b + 2 + u) w) → Put d d₃ at r SCHEDULE (scheduleText ws b u w)
+  pub schedule-put : (d d₁ d₂ d₃ : List ℕ) (at k₁ k₂ r runs : ℕ) → runs ≡ runsAt u → at + SCHEDULE ≤ length d
+      → Put d d₁ at k₁ STARTS (startsText ws b u) → Put d₁ d₂ k₁ k₂ 4 runWord → Put d₂ d₃ k₂ r (21 * w) (wordsText ws (b + runs) w)
+      → Put d d₃ at r SCHEDULE (scheduleText ws b u w)
   unfolding scheduleText startsText
-  schedule-put d d₁ d₂ d₃ at k₁ k₂ r room f₁ f₂ f₃ =
+  schedule-put d d₁ d₂ d₃ at k₁ k₂ r runs are room f₁ f₂ f₃ =
       let low : at ≤ length d = omega arith in
       let most : STARTS + 4 + 21 * w ≤ SCHEDULE = omega (arith, whole .weeks) in
       let two = put-join d d₁ d₂ at k₁ k₂ STARTS 4 (startsText ws b u) runWord low f₁ f₂ in
+      let place : b + runs ≡ b + 2 + u = omega arith in
+      let last = subst (λ (q : ℕ). Put d₂ d₃ k₂ r (21 * w) (wordsText ws q w)) place f₃ in
       put-most d d₃ at r (STARTS + 4 + 21 * w) SCHEDULE (scheduleText ws b u w)
-      (put-join d d₂ d₃ at k₂ r (STARTS + 4) (21 * w) (startsText ws b u ++ runWord) (wordsText ws (b + 2 + u) w) low two f₃)
+      (put-join d d₂ d₃ at k₂ r (STARTS + 4) (21 * w) (startsText ws b u ++ runWord) (wordsText ws (b + 2 + u) w) low two last)
       most
 
   -- " best" with both
@@ -106,17 +114,26 @@ block-spent ws b u w d d′ at r not-plan not-none not-best f =
 
 -- ---- lines
 
+-- the place of a block is a number of places
+pub line-fits : (k size : ℕ) → k < 32 → size ≤ 86 → Fits w64 (k * size)
+line-fits k size h g = let few : k ≤ 32 = omega arith in let m = mul-le-mul few g in omega arith
+
+-- and the block stands there
+pub line-whole : (words k u w size : ℕ) → Whole words (k * blockSize u w) u w → size ≡ blockSize u w → Whole words (k * size) u w
+line-whole words k u w size h is = subst (λ (n : ℕ). Whole words (k * n) u w) (sym is) h
+
 -- one line
-pub line-put : (ws : List ℕ) (k u w : ℕ) (d d₁ d₂ d₃ d₄ : List ℕ) (at k₁ k₂ k₃ r : ℕ) → at + LINE ≤ length d
+pub line-put : (ws : List ℕ) (k u w : ℕ) (d d₁ d₂ d₃ d₄ : List ℕ) (at k₁ k₂ k₃ r size : ℕ) → size ≡ blockSize u w → at + LINE ≤ length d
     → Put d d₁ at k₁ 3 askWord → Put d₁ d₂ k₁ k₂ 21 (numberText (k + 1))
-    → Put d₂ d₃ k₂ k₃ BLOCK (blockText ws (k * (2 + 2 * u + w)) u w) → Put d₃ d₄ k₃ r 1 (10 ∷ [])
+    → Put d₂ d₃ k₂ k₃ BLOCK (blockText ws (k * size) u w) → Put d₃ d₄ k₃ r 1 (10 ∷ [])
     → Put d d₄ at r LINE (lineText ws k u w)
 unfolding lineText
-line-put ws k u w d d₁ d₂ d₃ d₄ at k₁ k₂ k₃ r room f₁ f₂ f₃ f₄ =
+line-put ws k u w d d₁ d₂ d₃ d₄ at k₁ k₂ k₃ r size is room f₁ f₂ f₃ f₄ =
     let low : at ≤ length d = omega arith in
-    let block = blockText ws (k * (2 + 2 * u + w)) u w in
+    let block = blockText ws (k * blockSize u w) u w in
+    let told = subst (λ (n : ℕ). Put d₂ d₃ k₂ k₃ BLOCK (blockText ws (k * n) u w)) is f₃ in
     let two = put-join d d₁ d₂ at k₁ k₂ 3 21 askWord (numberText (k + 1)) low f₁ f₂ in
-    let three = put-join d d₂ d₃ at k₂ k₃ 24 BLOCK (askWord ++ numberText (k + 1)) block low two f₃ in
+    let three = put-join d d₂ d₃ at k₂ k₃ 24 BLOCK (askWord ++ numberText (k + 1)) block low two told in
     put-join d d₃ d₄ at k₃ r (24 + BLOCK) 1 (askWord ++ numberText (k + 1) ++ block) (10 ∷ []) low three f₄
 
 -- none yet
@@ -126,9 +143,9 @@ lines-start d ws u w = put-nothing d 0
 
 module _ (ws : List ℕ) (asks u w k : ℕ) (listed : Listed (length ws) asks u w) (less : k < asks) where
   -- the block of the next ask is there
-  pub lines-whole : Whole (length ws) (k * (2 + 2 * u + w)) u w
+  pub lines-whole : Whole (length ws) (k * blockSize u w) u w
   lines-whole =
-      let size = 2 + 2 * u + w in
+      let size = blockSize u w in
       let upto : k + 1 ≤ asks = omega arith in
       let all : (k + 1) * size ≤ asks * size = mul-le-mul-right size upto in
       record { units = listed .units; weeks = listed .weeks; within = omega (arith, all, listed .within, add-mul k 1 size, one-mul size) }

@@ -5,6 +5,7 @@ use mathlib.Core.Path.{_≡_}
 use mathlib.Core.List.{List}
 use lib.ListN.{length}
 use Rattle.lent.specs.Splice.{spliced}
+use Rattle.shape.specs.Shape.{blockSize}
 
 -- the bytes d have become d′: this text stands from place `at` up to place r, and is no longer than `most`
 pub record Put (d d′ : List ℕ) (at r most : ℕ) (text : List ℕ) : Type 0 where
@@ -16,11 +17,11 @@ pub record Put (d d′ : List ℕ) (at r most : ℕ) (text : List ℕ) : Type 0 
 pub record Whole (words b u w : ℕ) : Type 0 where
   pub units : u ≤ 16
   pub weeks : w ≤ 52
-  pub within : b + (2 + 2 * u + w) ≤ words
+  pub within : b + blockSize u w ≤ words
 
 -- the blocks of so many asks, one after the other, stand in so many words
 pub record Listed (words asks u w : ℕ) : Type 0 where
   pub units : u ≤ 16
   pub weeks : w ≤ 52
   pub few : asks ≤ 32
-  pub within : asks * (2 + 2 * u + w) ≤ words
+  pub within : asks * blockSize u w ≤ words

@@ -1,10 +1,13 @@
 // The text that the programs print, written into lent bytes: a line an ask, by the words of its block, or one line for a refusal or a judgement.
+use shape::COST_PLACE;
+use shape::START_PLACE;
 ghost use mathlib.Core.Path.{_≡_};
 ghost use mathlib.Core.List.{[], _∷_};
 ghost use Prim.Native.Nat.{_+_, _*_, _%_, _<_, _≤_};
 ghost use lib.ListN.{length};
 ghost use Rattle.model.specs.Lines.{digitsTo, numberText, wordsText, scheduleText, markText, bestText, blockText, lineText, linesText};
 ghost use Rattle.model.specs.Lines.{refusalText, soundText, ruleText};
+ghost use Rattle.shape.specs.Shape.{runsAt, blockSize};
 ghost use Rattle.report.specs.Lengths.{STARTS, SCHEDULE, MARK, BLOCK, LINE, TEXT};
 ghost use Rattle.report.specs.Parts.{startsText, spentText};
 ghost use Rattle.report.specs.Put.{Put, Whole, Listed};
@@ -88,12 +91,12 @@ fn put_words(text: &mut [u8], at: usize, answers: &[u32], place: usize, n: usize
 
 // The cost and the starts.
 fn put_starts(text: &mut [u8], at: usize, answers: &[u32], b: usize, u: usize) -> usize
-    requires { ⌜ (u ≤ 16) × (b + 2 + u ≤ length (now answers)) × (at + STARTS ≤ length (now text)) ⌝ }
+    requires { ⌜ (u ≤ 16) × (b + runsAt u ≤ length (now answers)) × (at + STARTS ≤ length (now text)) ⌝ }
     ensures { λ r. ⌜ Put (now (text .entry)) (now (text .exit)) at r STARTS (startsText (now (answers .entry)) b u) ⌝ }
 {
-    let cost = put_number(text, at, words::widen(answers[b + 1]) as u64);
+    let cost = put_number(text, at, words::widen(answers[b + COST_PLACE]) as u64);
     let starts = put_bytes(text, cost, b" starts");
-    put_words(text, starts, answers, b + 2, u)
+    put_words(text, starts, answers, b + START_PLACE, u)
 }
 
 // The cost, the starts and the run numbers.
@@ -103,7 +106,7 @@ fn put_schedule(text: &mut [u8], at: usize, answers: &[u32], b: usize, u: usize,
 {
     let run = put_starts(text, at, answers, b, u);
     let runs = put_bytes(text, run, b" run");
-    put_words(text, runs, answers, b + 2 + u, w)
+    put_words(text, runs, answers, b + shape::runs_at(u), w)
 }
 
 // The mark, its missing starts 0.
@@ -112,7 +115,7 @@ fn put_mark(text: &mut [u8], at: usize, answers: &[u32], b: usize, u: usize, w: 
     ensures { λ r. ⌜ Put (now (text .entry)) (now (text .exit)) at r MARK (markText (now (answers .entry)) b u w) ⌝ }
 {
     let starts = put_bytes(text, at, b" mark");
-    put_words(text, starts, answers, b + 2 + u + w, u)
+    put_words(text, starts, answers, b + shape::mark_at(u, w), u)
 }
 
 // A best schedule before a mark.
@@ -155,19 +158,19 @@ fn put_block(text: &mut [u8], at: usize, answers: &[u32], b: usize, u: usize, w:
 
 // The line of ask k, from 0.
 fn put_line(text: &mut [u8], at: usize, answers: &[u32], k: usize, u: usize, w: usize) -> usize
-    requires { ⌜ Whole (length (now answers)) (k * (2 + 2 * u + w)) u w × (at + LINE ≤ length (now text)) × (k < 32) ⌝ }
+    requires { ⌜ Whole (length (now answers)) (k * blockSize u w) u w × (at + LINE ≤ length (now text)) × (k < 32) ⌝ }
     ensures { λ r. ⌜ Put (now (text .entry)) (now (text .exit)) at r LINE (lineText (now (answers .entry)) k u w) ⌝ }
 {
     let ask = put_bytes(text, at, b"ask");
     let number = put_number(text, ask, (k + 1) as u64);
-    let block = put_block(text, number, answers, k * (2 + 2 * u + w), u, w);
+    let block = put_block(text, number, answers, k * shape::block_size(u, w), u, w);
     put_byte(text, block, 10)
 }
 
 // ---- all that is printed for an input
 
 // The lines of all asks.
-pub fn lines(text: &mut [u8], answers: &[u32], asks: usize, u: usize, w: usize) -> usize
+pub fn put_lines(text: &mut [u8], answers: &[u32], asks: usize, u: usize, w: usize) -> usize
     requires { ⌜ Listed (length (now answers)) asks u w × (TEXT ≤ length (now text)) ⌝ }
     ensures { λ r. ⌜ Put (now (text .entry)) (now (text .exit)) 0 r (LINE * asks) (linesText (now (answers .entry)) asks u w) ⌝ }
 {
@@ -180,7 +183,7 @@ pub fn lines(text: &mut [u8], answers: &[u32], asks: usize, u: usize, w: usize) 
 }
 
 // The line of a refusal.
-pub fn refusal(text: &mut [u8], number: u32, place: usize) -> usize
+pub fn put_refusal(text: &mut [u8], number: u32, place: usize) -> usize
     requires { ⌜ 50 ≤ length (now text) ⌝ }
     ensures { λ r. ⌜ Put (now (text .entry)) (now (text .exit)) 0 r 50 (refusalText number place) ⌝ }
 {
@@ -191,7 +194,7 @@ pub fn refusal(text: &mut [u8], number: u32, place: usize) -> usize
 }
 
 // The line of a sound grid.
-pub fn sound(text: &mut [u8], cost: u64) -> usize
+pub fn put_sound(text: &mut [u8], cost: u64) -> usize
     requires { ⌜ 27 ≤ length (now text) ⌝ }
     ensures { λ r. ⌜ Put (now (text .entry)) (now (text .exit)) 0 r 27 (soundText cost) ⌝ }
 {
@@ -201,7 +204,7 @@ pub fn sound(text: &mut [u8], cost: u64) -> usize
 }
 
 // The line of a broken formula.
-pub fn rule(text: &mut [u8], formula: u32) -> usize
+pub fn put_rule(text: &mut [u8], formula: u32) -> usize
     requires { ⌜ 26 ≤ length (now text) ⌝ }
     ensures { λ r. ⌜ Put (now (text .entry)) (now (text .exit)) 0 r 26 (ruleText formula) ⌝ }
 {

@@ -10,7 +10,7 @@ use lib.Dec.{ltb, leb, eqb}
 use borrow.Author.Tests.{lt-ltb, le-ltb, le-leb, lt-leb, eq-eqb, ne-eqb}
 use Rattle.sums.specs.Logic.{implies}
 use Rattle.sums.specs.Sum.{sumTo, countsOne}
-use Rattle.sums.specs.NumSet.{pick}
+use Rattle.sums.specs.NumSet.{onlyIn}
 use Rattle.sums.proofs.LogicLaws.{lt-or-ge}
 use Rattle.sums.proofs.LoopLaws.{sum-ended}
 use Rattle.model.specs.Problem.{Problem}
@@ -26,28 +26,28 @@ cell-read g u t i q e = rw e
 
 module _ (x : States) (t i s : ℕ) (e : s ≡ x t i) where
   -- a unit ON adds its term
-  pub on-adds : (f : ℕ → ℕ) (r : ℕ) → s ≡ 1 → r ≡ f i → r ≡ pick (isOn x t) f i
-  unfolding pick isOn
+  pub on-adds : (f : ℕ → ℕ) (r : ℕ) → s ≡ 1 → r ≡ f i → r ≡ onlyIn (isOn x t) f i
+  unfolding onlyIn isOn
   on-adds f r h is = simp (← e, eq-eqb s 1 h) is
 
   -- any other none
-  pub off-adds : (f : ℕ → ℕ) → (s ≡ 1 → ⊥) → 0 ≡ pick (isOn x t) f i
-  unfolding pick isOn
+  pub off-adds : (f : ℕ → ℕ) → (s ≡ 1 → ⊥) → 0 ≡ onlyIn (isOn x t) f i
+  unfolding onlyIn isOn
   off-adds f h = simp (← e, ne-eqb s 1 h)
 
   -- a unit in maintenance counts one
-  pub maint-counts : s ≡ 2 → 1 ≡ pick (isMaint x t) countsOne i
-  unfolding pick isMaint countsOne
+  pub maint-counts : s ≡ 2 → 1 ≡ onlyIn (isMaint x t) countsOne i
+  unfolding onlyIn isMaint countsOne
   maint-counts h = simp (← e, eq-eqb s 2 h)
 
   -- any other none
-  pub other-counts : (s ≡ 2 → ⊥) → 0 ≡ pick (isMaint x t) countsOne i
-  unfolding pick isMaint countsOne
+  pub other-counts : (s ≡ 2 → ⊥) → 0 ≡ onlyIn (isMaint x t) countsOne i
+  unfolding onlyIn isMaint countsOne
   other-counts h = simp (← e, ne-eqb s 2 h)
 
 -- the number of units in maintenance in a week, counted over all units
 pub headcount-ended : (p : Problem) (x : States) (t u k a : ℕ) → p .units ≡ u → k ≤ u → u ≤ k
-    → a ≡ sumTo k (pick (isMaint x t) countsOne) → a ≡ headcount p (isMaint x t)
+    → a ≡ sumTo k (onlyIn (isMaint x t) countsOne) → a ≡ headcount p (isMaint x t)
 unfolding headcount
 headcount-ended p x t u k a units h g e = rw units (sum-ended _ k u a e h g)
 

@@ -77,7 +77,7 @@ fn write(words: &[u32], starts: &[u32], runs: &[u32], l: Layout, grid: &mut [u8]
 }
 
 // Lays a schedule out as a grid in the lent bytes and keeps any beyond, or refuses and changes nothing: the file's refusal, then 17 where
-// the bytes are fewer than weeks times units.
+// the bytes are fewer than weeks times units (D43).
 pub fn draw(words: &[u32], starts: &[u32], runs: &[u32], grid: &mut [u8]) -> Verdict
     ensures answer { λ r. ⌜ verdictOf r ≡ drawVerdict (now (words .entry)) (length (now (grid .entry))) ⌝ }
     ensures buffer { λ r. ⌜ now (grid .exit) ≡

@@ -8,6 +8,7 @@ use native.Mathlib.Omega.{arith}
 use lib.ListN.{length, replicate}
 use borrow.Author.Tests.{eqb-true, ne-eqb}
 use Rattle.sums.specs.Range.{listTo, firstTo}
+use Rattle.sums.specs.Table.{entry}
 use Rattle.sums.proofs.LogicLaws.{true-false}
 use Rattle.sums.proofs.RangeLaws.{first-is}
 use Rattle.sums.proofs.CountLaws.{count-less}
@@ -24,23 +25,22 @@ use Rattle.model.proofs.DomainLaws.{permits-below}
 use Rattle.model.proofs.FileLaws.{ranged, fair}
 use Rattle.instance.specs.declared.Euro.{Euro}
 use Rattle.instance.specs.Filed.{Filed}
-use Rattle.blame.specs.Closed.{startIn}
-use Rattle.nogood.specs.Noting.{endBounds, endUsed, ended}
+use Rattle.nogood.specs.Noting.{KEPT_FREE, endBounds, endUsed, ended}
 use Rattle.nogood.specs.Stock.{Stock, Grown, DeadEnds}
 use Rattle.nogood.proofs.StockLaws.{grown-next, stock-ended, ended-room, ended-length}
 use Rattle.bound.specs.declared.Trial.{Trial}
 use Rattle.bound.specs.declared.Trial.the-variants.{Holds, Fails}
-use Rattle.bound.specs.Tests.{Blames, AllStand, AllBlame, Fronts, Rooted, RootDue, noStart, someStartless, RunsOf, Permits}
+use Rattle.bound.specs.Tests.{Blames, AllStand, AllBlame, RootValues, Rooted, RootDue, noStart, someStartless, RunsOf, Permits}
 use Rattle.bound.proofs.RowLaws.{rows-none}
 use Rattle.state.specs.declared.State.{State}
 use Rattle.state.specs.declared.Step.{Step}
 use Rattle.state.specs.declared.Walked.{Walked}
 use Rattle.state.specs.declared.Walked.the-variants.{Dead, Spent}
-use Rattle.state.specs.State.{deadAt, withTable, Concluded, Begun}
+use Rattle.state.specs.State.{deadAt, withTable, EndNoted, WalkStart}
 use Rattle.search.specs.declared.Reply.{Reply}
-use Rattle.search.specs.declared.Visit.{Visit}
-use Rattle.search.specs.Walk.{Incumbent, Held, PlaceDue, PlaceDone, Ends, AllSettled, AtRoot, WalkDue, Closes, Finished}
-use Rattle.search.specs.Ask.{answerFor, answerIn, ReplyDue, ReplyOf, AskDue, Asked}
+use Rattle.search.specs.declared.walk.Visit.{Visit}
+use Rattle.search.specs.Walk.{Incumbent, TableTrue, PlaceDue, PlaceDone, WalkEnds, AllSettled, AtRoot, WalkDue, Closes, Finished}
+use Rattle.search.specs.Ask.{answerFor, answerIn, ReplyOfDue, ReplyOf, AskDue, Asked}
 use Rattle.search.proofs.StateLaws.{later-same}
 use Rattle.search.proofs.ReplyLaws.{answer-correct, never-spent}
 
@@ -103,7 +103,7 @@ module _ (ws : List ℕ) (l : Layout) (us w memo : List ℕ) (st : State) (d : W
         })
 
     -- no unit is placed
-    pub walk-places : (c : Euro) (rows ys : List ℕ) (at : Visit) → v ≡ Holds c → rows ≡ replicate 52 0 → Fronts us ys → AtRoot (c .0) st at
+    pub walk-places : (c : Euro) (rows ys : List ℕ) (at : Visit) → v ≡ Holds c → rows ≡ replicate 52 0 → RootValues us ys → AtRoot (c .0) st at
         → PlaceDue ws l us rows ys at w memo
     unfolding PlaceDue
     walk-places c rows ys at e none fronts root =
@@ -114,8 +114,8 @@ module _ (ws : List ℕ) (l : Layout) (us w memo : List ℕ) (st : State) (d : W
           open-at = record {
             unit = omega (arith, root .none, g .units-some);
             long = omega (arith, root .long, g .units-most);
-            stands = rw (root .none, root .bound-is) (stands .each (startIn (at .node .starts)));
-            tallied = rw (root .none) (rows-none (problemOf ws) (startIn (at .node .starts)) rows none);
+            stands = rw (root .none, root .bound-is) (stands .each (entry (at .node .starts)));
+            tallied = rw (root .none) (rows-none (problemOf ws) (entry (at .node .starts)) rows none);
             settled = record { costs = λ s sound l. nobody-below (subst (λ (k : ℕ). l .at < k) (root .none) (l .below)) };
             past = λ q. true-false (sym q ∙ (ap (λ (x : State). x .found) (root .same) ∙ d .fresh .nothing));
             counted = omega (arith, ap (λ (x : State). x .tries) (root .same), d .fresh .tries);
@@ -130,7 +130,7 @@ pub walk-placed : (p : Problem) (w w′ : List ℕ) (c : ℕ) (st : State) (at :
 unfolding PlaceDone
 walk-placed p w w′ c st at step root done = record { later = rw (root .same) at (done .later); closes = rw (root .same) at (go (step .walked) (done .ends)) }
   where
-    go : (k : Walked) → Ends p (at .state .budget) (at .node .starts) (at .node .unit) (step .state) k → Closes p (at .state .budget) (step .state) k
+    go : (k : Walked) → WalkEnds p (at .state .budget) (at .node .starts) (at .node .unit) (step .state) k → Closes p (at .state .budget) (step .state) k
     go (Dead b) o = record {
       costs = λ s sound. o .closed .costs s sound (λ i l e. nobody-below (subst (λ (k : ℕ). i < k) (root .none) (o .within i e)));
     }
@@ -138,28 +138,28 @@ walk-placed p w w′ c st at step root done = record { later = rw (root .same) a
 
 -- ---- the runs of a best
 
-pub runs-asked : (p : Problem) (st : State) → (st .found ≡ true → Permits p (startIn (st .best))) → st .found ≡ true → Permits p (startIn (st .best))
+pub runs-asked : (p : Problem) (st : State) → (st .found ≡ true → Permits p (entry (st .best))) → st .found ≡ true → Permits p (entry (st .best))
 runs-asked p st h e = h e
 
-pub runs-none : (p : Problem) (st : State) (runs : List ℕ) → st .found ≡ false → st .found ≡ true → RunsOf p (startIn (st .best)) runs
+pub runs-none : (p : Problem) (st : State) (runs : List ℕ) → st .found ≡ false → st .found ≡ true → RunsOf p (entry (st .best)) runs
 runs-none p st runs e so = true-false (sym so ∙ e)
 
 -- ---- the ask
 
 -- it begins with no schedule and its own ceiling
 pub ask-begins : (ws : List ℕ) (l : Layout) (us : List ℕ) (ceiling budget used : ℕ) (w memo : List ℕ) (st : State)
-    → AskDue ws l us ceiling w used memo → Begun ceiling budget used st → WalkDue ws l us st w memo
+    → AskDue ws l us ceiling w used memo → WalkStart ceiling budget used st → WalkDue ws l us st w memo
 ask-begins ws l us ceiling budget used w memo st d b = record {
   walking = d .walking;
   fresh = record {
     nothing = b .nothing;
     tries = b .tries;
     small = omega (arith, b .limit, d .ceiled);
-    held = subst (Held (problemOf ws) w) (sym (b .used)) (d .held);
+    held = subst (TableTrue (problemOf ws) w) (sym (b .used)) (d .held);
   };
 }
 
-module _ (p : Problem) (ceiling budget used : ℕ) (w w′ : List ℕ) (st : State) (step : Step) (b : Begun ceiling budget used st)
+module _ (p : Problem) (ceiling budget used : ℕ) (w w′ : List ℕ) (st : State) (step : Step) (b : WalkStart ceiling budget used st)
     (ended-so : Finished p w w′ st step) where
   -- the best so far at the end
   led : Incumbent p ceiling (step .state)
@@ -170,11 +170,11 @@ module _ (p : Problem) (ceiling budget used : ℕ) (w w′ : List ℕ) (st : Sta
   })
 
   -- a plan's starts are permitted
-  best-permits : step .state .found ≡ true → Permits p (startIn (step .state .best))
+  best-permits : step .state .found ≡ true → Permits p (entry (step .state .best))
   best-permits e = record { each = led .plan e .sound .schedule .permits }
 
   -- there is space for the end of the walk
-  end-fits : used < length w → Held p w used → step .state .used < length w′
+  end-fits : used < length w → TableTrue p w used → step .state .used < length w′
   end-fits h held =
       let r = ended-so .later .carried .room (length w - 1) (omega (arith, b .used)) (omega arith) in
       omega (arith, r, ended-so .later .carried .long)
@@ -189,14 +189,14 @@ module _ (p : Problem) (ceiling budget used : ℕ) (w w′ : List ℕ) (st : Sta
   unfolding concludes endBounds
   ends-as runs true q b′ = go (step .state .limit .0)
     where
-      go : (n : ℕ) → concludes ceiling (optimal n (listTo (p .units) (startIn (step .state .best))) (listTo (p .weeks) (startIn runs))) ≡ endBounds n
+      go : (n : ℕ) → concludes ceiling (optimal n (listTo (p .units) (entry (step .state .best))) (listTo (p .weeks) (entry runs))) ≡ endBounds n
       go zero = refl
       go (suc n) = rw (ne-eqb (suc n) 0 (λ z. omega arith)) (ap (λ (k : ℕ). k ∷ []) (let e : n ≡ suc n - 1 = omega arith in e))
   ends-as runs false q b′ = rw (led .none q, ne-eqb (ceiling + 1) 0 (λ z. omega arith)) (ap (λ (n : ℕ). n ∷ [])
       (let e : ceiling ≡ ceiling + 1 - 1 = omega arith in e))
 
-  module _ (fair : Fair p) (small : ceiling < MOST_LIMIT) (space : used < length w) (held : Held p w used) (runs : List ℕ)
-      (are : step .state .found ≡ true → RunsOf p (startIn (step .state .best)) runs)
+  module _ (fair : Fair p) (small : ceiling < MOST_LIMIT) (space : used < length w) (held : TableTrue p w used) (runs : List ℕ)
+      (are : step .state .found ≡ true → RunsOf p (entry (step .state .best)) runs)
       (idle : someStartless p ≡ true → step ≡ deadAt st 0) (w″ : List ℕ) where
     -- a unit without starts settles it at once
     settled-idle : someStartless p ≡ true → (step .walked ≡ Dead 0) × (step .state .tries ≡ 0)
@@ -210,7 +210,7 @@ module _ (p : Problem) (ceiling budget used : ℕ) (w w′ : List ℕ) (st : Sta
     stock-walked : (gs : List Nogood) → Stock p gs w used → Grown p DeadEnds gs w′ (step .state .used)
     stock-walked gs s = ended-so .later .carried .stock gs (subst (Stock p gs w) (sym (b .used)) s)
 
-    room-walked : (n : ℕ) → used ≤ n → length w - 32 ≤ n → step .state .used ≤ n
+    room-walked : (n : ℕ) → used ≤ n → length w - KEPT_FREE ≤ n → step .state .used ≤ n
     room-walked n h g = ended-so .later .carried .room n (omega (arith, b .used)) g
 
     -- a walk that ended unspent
@@ -259,11 +259,11 @@ module _ (p : Problem) (ceiling budget used : ℕ) (w w′ : List ℕ) (st : Sta
     }
 
     -- the ask is answered
-    asked : (r : State) → Concluded w′ w″ (step .state) r (step .walked)
+    asked : (r : State) → EndNoted w′ w″ (step .state) r (step .walked)
         → Asked p ceiling budget w used w″ (record { state = r; walked = step .walked; runs = runs })
     asked r c = go (step .walked) refl c
       where
-        go : (k : Walked) → step .walked ≡ k → Concluded w′ w″ (step .state) r k
+        go : (k : Walked) → step .walked ≡ k → EndNoted w′ w″ (step .state) r k
             → Asked p ceiling budget w used w″ (record { state = r; walked = step .walked; runs = runs })
         go (Dead b′) e d =
             subst (λ (x : State). Asked p ceiling budget w used w″ (record { state = x; walked = step .walked; runs = runs })) (sym (d .0))
@@ -273,9 +273,9 @@ module _ (p : Problem) (ceiling budget used : ℕ) (w w′ : List ℕ) (st : Sta
             (asked-spent m e (d .1))
 
 module _ (ws : List ℕ) (l : Layout) (us : List ℕ) (ceiling budget used : ℕ) (w memo w′ : List ℕ) (st : State) (step : Step)
-    (d : AskDue ws l us ceiling w used memo) (b : Begun ceiling budget used st) (e : Finished (problemOf ws) w w′ st step) where
+    (d : AskDue ws l us ceiling w used memo) (b : WalkStart ceiling budget used st) (e : Finished (problemOf ws) w w′ st step) where
   -- what the reply asks
-  pub ask-replies : ReplyDue ws l step w′
+  pub ask-replies : ReplyOfDue ws l step w′
   ask-replies = record {
     filed = d .walking .filed;
     permits = best-permits (problemOf ws) ceiling budget used w w′ st step b e;

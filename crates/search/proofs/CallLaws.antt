@@ -8,6 +8,7 @@ use native.Mathlib.Nat.{le-trans}
 use native.Mathlib.Omega.{arith}
 use lib.ListN.{length, set}
 use Rattle.sums.specs.NumSet.{has}
+use Rattle.sums.specs.Table.{entry}
 use Rattle.sums.proofs.LogicLaws.{true-false}
 use Rattle.model.specs.declared.Layout.{Layout}
 use Rattle.model.specs.Problem.{Problem}
@@ -18,11 +19,10 @@ use Rattle.model.proofs.FileLaws.{fair}
 use Rattle.instance.specs.declared.Euro.{Euro}
 use Rattle.instance.specs.Filed.{Filed}
 use Rattle.overhaul.specs.Range.{StartRange}
-use Rattle.blame.specs.Closed.{startIn}
 use Rattle.blame.specs.Placed.{placed}
 use Rattle.nogood.proofs.StockLaws.{stock-within}
 use Rattle.tables.specs.Tables.{priceIn}
-use Rattle.relaxation.specs.Relaxed.{Recalls}
+use Rattle.relaxation.specs.Relaxed.{MemoTrue}
 use Rattle.dual.specs.declared.Node.{Node}
 use Rattle.dual.specs.Blame.{nextNode}
 use Rattle.bound.specs.declared.Trial.{Trial}
@@ -33,19 +33,19 @@ use Rattle.state.specs.declared.State.{State}
 use Rattle.state.specs.declared.Step.{Step}
 use Rattle.state.specs.declared.Walked.{Walked}
 use Rattle.state.specs.declared.Walked.the-variants.{Dead, Spent}
-use Rattle.state.specs.State.{triedOnce, stoppedAt, deadAt, Learnt}
-use Rattle.search.specs.declared.Visit.{Visit}
-use Rattle.search.specs.declared.Turn.{Turn}
-use Rattle.search.specs.declared.Tried.{Tried}
-use Rattle.search.specs.Walk.{startAt, IsStart, Open, Walking, PlaceNeeds, PlaceDue, TryNeeds, TryDue, Judging, TryJudged, nextVisit, Deeper, TryTaken, PlaceDone, TryDone, Leaves, GoesOn, Shares, TurnOf, Done, tryRoom, placeRoom, LeafDue, Leaf}
+use Rattle.state.specs.State.{triedOnce, stoppedAt, deadAt, DeadEndNoted}
+use Rattle.search.specs.declared.walk.Visit.{Visit}
+use Rattle.search.specs.declared.walk.Turn.{Turn}
+use Rattle.search.specs.declared.walk.Tried.{Tried}
+use Rattle.search.specs.Walk.{startAt, IsStart, Open, Walking, PlaceNeeds, PlaceDue, TryNeeds, TryDue, Judging, TryJudged, nextVisit, Deeper, TryTaken, PlaceDone, TryDone, LeavesUnit, GoesOn, Shares, TurnOf, Done, tryRoom, placeRoom, LeafDue, Leaf}
 use Rattle.search.proofs.StateLaws.{held-later}
 use Rattle.search.proofs.PlaceLaws.{places-to-try, places-to-place}
-use Rattle.search.proofs.LearntLaws.{later-learnt}
+use Rattle.search.proofs.NotedLaws.{later-noted}
 use Rattle.search.proofs.TryLaws.{done-stopped, done-fails, opened, done-leaf, done-place}
 use Rattle.search.proofs.UnitLaws.{Trying, trying-none, some-start, untried, done-spent, done-jump, trying-more, done-all}
 
--- the same file and table, with a memory that has changed
-walking-on : (ws : List ℕ) (l : Layout) (us memo memo′ : List ℕ) → Walking ws l us memo → Recalls (problemOf ws) (priceIn us) memo′
+-- the same file and table, with a memo that has changed
+walking-on : (ws : List ℕ) (l : Layout) (us memo memo′ : List ℕ) → Walking ws l us memo → MemoTrue (problemOf ws) (priceIn us) memo′
     → Walking ws l us memo′
 walking-on ws l us memo memo′ h r = record { filed = h .filed; dual = h .dual; recalls = r }
 
@@ -149,19 +149,19 @@ module _ (ws : List ℕ) (l : Layout) (us rows ys : List ℕ) (node : Node) (st 
     le-trans (t .later .falls) (h .open-at .small),
   )
 
-  -- the memory recalls
-  pub starts-recalls : Recalls (problemOf ws) (priceIn us) memo₁
+  -- the memo recalls
+  pub starts-recalls : MemoTrue (problemOf ws) (priceIn us) memo₁
   unfolding Starts TryDue TryDone PlaceDone
   starts-recalls = h .walking .recalls
 
   -- all starts have failed, and the dead end was noted or not
-  pub starts-done : (w₂ : List ℕ) (r : State) (step : Step) → last < v → Learnt w₁ w₂ s r (node .starts) (node .unit) blame
+  pub starts-done : (w₂ : List ℕ) (r : State) (step : Step) → last < v → DeadEndNoted w₁ w₂ s r (node .starts) (node .unit) blame
       → step ≡ deadAt r blame → PlaceDone (problemOf ws) w w₂ node st step
   unfolding Starts TryDue TryDone PlaceDone
   starts-done w₂ r step ended k is =
       subst (PlaceDone prob w w₂ node st) (sym is)
       (done-all prob w w₁ us rows ys node st s blame first last v (h .range) (h .inside) (h .open-at) t ended w₂ r
-      (λ closed. later-learnt prob w₁ w₂ s r (node .starts) (node .unit) blame (omega (arith, h .inside)) (le-trans (t .later .falls)
+      (λ closed. later-noted prob w₁ w₂ s r (node .starts) (node .unit) blame (omega (arith, h .inside)) (le-trans (t .later .falls)
       (h .open-at .small)) (h .open-at .stands .standing .permits) (t .under) closed k)
       (ap (λ (x : State). x .limit) (k .state)) (ap (λ (x : State). x .tries) (k .state)) (ap (λ (x : State). x .found) (k .state))
       (ap (λ (x : State). x .best) (k .state)) (ap (λ (x : State). x .budget) (k .state)))
@@ -195,7 +195,7 @@ module _ (ws : List ℕ) (l : Layout) (us rows ys : List ℕ) (node : Node) (st 
       unfolding Starts PlaceDone
       left so = go (step .walked) refl (told .leaves so)
         where
-          go : (k : Walked) → step .walked ≡ k → Leaves (node .unit) k
+          go : (k : Walked) → step .walked ≡ k → LeavesUnit (node .unit) k
               → Done (problemOf ws) w w₂ (node .starts) (node .unit) (placeRoom (problemOf ws) (node .unit)) st step
           go (Spent m) e _ =
               done-spent prob w w₁ us rows ys node st s blame first last v (h .range) (h .ends) (h .inside) (h .open-at) t here w₂ step own m e
@@ -203,7 +203,7 @@ module _ (ws : List ℕ) (l : Layout) (us rows ys : List ℕ) (node : Node) (st 
               done-jump prob w w₁ us rows ys node st s blame first last v (h .range) (h .ends) (h .inside) (h .open-at) t here w₂ step own b e free
 
       -- it shares it: the next start
-      next-start : (memo₂ : List ℕ) → turn .left ≡ false → Recalls (problemOf ws) (priceIn us) memo₂
+      next-start : (memo₂ : List ℕ) → turn .left ≡ false → MemoTrue (problemOf ws) (priceIn us) memo₂
           → Starts ws l us rows ys node st w first last w₂ (step .state) (turn .blame) (v + 1) memo₂
       unfolding Starts
       next-start memo₂ so recalls = go (step .walked) refl (told .goes-on so)
@@ -232,7 +232,7 @@ starts-left ws l us rows ys node st w first last w₁ s blame v memo₁ next w�
 pub starts-next : (ws : List ℕ) (l : Layout) (us rows ys : List ℕ) (node : Node) (st : State) (w : List ℕ) (first last : ℕ) (w₁ : List ℕ) (s : State)
     (blame v : ℕ) (memo₁ : List ℕ) (next : Visit) (w₂ : List ℕ) (step : Step) (turn : Turn) (memo₂ : List ℕ)
     → Starts ws l us rows ys node st w first last w₁ s blame v memo₁ → IsStart node v s next → TryDone (problemOf ws) w₁ w₂ next step
-    → TurnOf step blame (node .unit) turn → Recalls (problemOf ws) (priceIn us) memo₂ → v ≤ last → turn .left ≡ false
+    → TurnOf step blame (node .unit) turn → MemoTrue (problemOf ws) (priceIn us) memo₂ → v ≤ last → turn .left ≡ false
     → Starts ws l us rows ys node st w first last w₂ (step .state) (turn .blame) (v + 1) memo₂
 starts-next ws l us rows ys node st w first last w₁ s blame v memo₁ next w₂ step turn memo₂ h start done told recalls here so =
     next-start ws l us rows ys node st w first last w₁ s blame v memo₁ h here next start w₂ step done turn told memo₂ so recalls
@@ -246,7 +246,7 @@ place-long p w₀ w w′ at step d e = d .later .carried .long ∙ e
 module _ (step : Step) (blame j : ℕ) (w : Walked) (is : step .walked ≡ w) where
   pub turn-spent : (m : ℕ) (turn : Turn) → w ≡ Spent m → turn .left ≡ true → TurnOf step blame j turn
   turn-spent m turn e so = record {
-    leaves = λ _. subst (Leaves j) (sym (is ∙ e)) tt;
+    leaves = λ _. subst (LeavesUnit j) (sym (is ∙ e)) tt;
     goes-on = λ z. true-false (sym so ∙ z);
   }
 
@@ -259,7 +259,7 @@ module _ (step : Step) (blame j : ℕ) (w : Walked) (is : step .walked ≡ w) wh
 
   pub turn-free : (b : ℕ) (shares : Bool) (turn : Turn) → w ≡ Dead b → shares ≡ has b j → shares ≡ false → turn .left ≡ true → TurnOf step blame j turn
   turn-free b shares turn e q free so = record {
-    leaves = λ _. subst (Leaves j) (sym (is ∙ e)) (sym q ∙ free);
+    leaves = λ _. subst (LeavesUnit j) (sym (is ∙ e)) (sym q ∙ free);
     goes-on = λ z. true-false (sym so ∙ z);
   }
 
@@ -270,15 +270,15 @@ module _ (ws : List ℕ) (l : Layout) (us rows ys : List ℕ) (at : Visit) (w me
   unfolding TryDue PlaceDue TryDone PlaceDone
   file = d .walking .filed
 
-  -- and a memory
-  pub try-recalls : Recalls (problemOf ws) (priceIn us) memo
+  -- and a memo
+  pub try-recalls : MemoTrue (problemOf ws) (priceIn us) memo
   unfolding TryDue
   try-recalls = d .walking .recalls
 
-  -- the weeks' worths have 52 places
+  -- the weeks' values have 52 places
   pub try-long : 52 ≡ length ys
   unfolding TryDue
-  try-long = sym (d .untried .stands .bounds .worths .long)
+  try-long = sym (d .untried .stands .bounds .values .long)
 
   -- its unit is one of sixteen
   pub try-few : at .node .unit < 16
@@ -327,16 +327,16 @@ module _ (ws : List ℕ) (l : Layout) (us rows ys : List ℕ) (at : Visit) (w me
   unfolding TryTaken
   its-file = j .judging .due .walking .filed
 
-  -- the file, and the memory as it recalls now
+  -- the file, and the memo as it recalls now
   pub taken-filed : Filed ws l
   taken-filed = its-file
 
-  pub taken-recalls : Recalls (problemOf ws) (priceIn us) memo₁
+  pub taken-recalls : MemoTrue (problemOf ws) (priceIn us) memo₁
   unfolding TryTaken
   taken-recalls = j .judging .recalls
 
   -- what its rows ask
-  pub taken-rows : Due (problemOf ws) rows (startIn (at .node .starts)) (at .node .unit)
+  pub taken-rows : Due (problemOf ws) rows (entry (at .node .starts)) (at .node .unit)
   unfolding TryTaken
   taken-rows =
       let u = j .judging .due .untried in
@@ -357,7 +357,7 @@ module _ (ws : List ℕ) (l : Layout) (us rows ys : List ℕ) (at : Visit) (w me
     goes = j .goes-to ∙ ap (nextVisit at) e
 
     -- it holds, and the next unit is to be placed
-    pub taken-places : (out : List ℕ) → Rows (problemOf ws) (placed (problemOf ws) (startIn (at .node .starts)) (at .node .unit + 1)) out
+    pub taken-places : (out : List ℕ) → Rows (problemOf ws) (placed (problemOf ws) (entry (at .node .starts)) (at .node .unit + 1)) out
         → PlaceDue ws l us out zs (r .at) w memo₁
     unfolding TryTaken PlaceDue
     taken-places out tallied = subst (λ (x : Visit). PlaceNeeds ws l us out zs x w memo₁) (sym goes) (record {

@@ -10,23 +10,23 @@ use lib.Dec.{ltb}
 use lib.ListN.{length}
 use borrow.Author.Tests.{ltb-true}
 use Rattle.sums.specs.NumSet.{has}
+use Rattle.sums.specs.Table.{entry}
 use Rattle.model.specs.declared.Layout.{Layout}
 use Rattle.model.specs.Nogood.{MOST_LIMIT}
 use Rattle.model.specs.Words.{problemOf}
 use Rattle.model.proofs.FileLaws.{ranged, fair}
 use Rattle.instance.specs.declared.Euro.{Euro}
 use Rattle.instance.specs.Filed.{Filed}
-use Rattle.blame.specs.Closed.{startIn}
 use Rattle.blame.specs.Placed.{firstUnits, placed, paid}
 use Rattle.blame.proofs.ClosedLaws.{closed-more}
 use Rattle.blame.proofs.PlacedLaws.{leaf-closed}
 use Rattle.memo.specs.Memo.{Right, Others}
-use Rattle.nogood.specs.declared.Hit.{Hit}
-use Rattle.nogood.specs.declared.Hit.the-variants.{Cut}
+use Rattle.nogood.specs.declared.Scan.{Scan}
+use Rattle.nogood.specs.declared.Scan.the-variants.{Cut}
 use Rattle.nogood.specs.Recall.{Recall, Recalled}
 use Rattle.nogood.proofs.StockLaws.{recall-closed}
 use Rattle.tables.specs.Tables.{priceIn, totalIn}
-use Rattle.relaxation.specs.Relaxed.{Recalls}
+use Rattle.relaxation.specs.Relaxed.{MemoTrue}
 use Rattle.relaxation.proofs.ValueLaws.{recalls-others}
 use Rattle.dual.specs.Blame.{Blamed}
 use Rattle.bound.specs.Rows.{Rows}
@@ -36,7 +36,7 @@ use Rattle.bound.specs.Tests.{Blames, Judged, TestDue}
 use Rattle.state.specs.declared.State.{State}
 use Rattle.state.specs.declared.Step.{Step}
 use Rattle.state.specs.State.{deadAt, improvedBy}
-use Rattle.search.specs.declared.Visit.{Visit}
+use Rattle.search.specs.declared.walk.Visit.{Visit}
 use Rattle.search.specs.Walk.{TryDue, TryJudged, LeafDue, BetterDue, Better, Leaf}
 
 -- ---- a start
@@ -64,8 +64,8 @@ module _ (ws : List ℕ) (l : Layout) (us rows ys : List ℕ) (at : Visit) (w me
   }
 
   -- a noted conflict is met: its units are to blame
-  judged-recalled : (h : Hit) (b : ℕ) → h ≡ Cut b → Recalled w (at .node .starts) (at .node .unit + 1) (at .state .limit .0) h
-      → Blames (problemOf ws) (startIn (at .node .starts)) (at .node .unit + 1) (at .state .limit .0) b
+  judged-recalled : (h : Scan) (b : ℕ) → h ≡ Cut b → Recalled w (at .node .starts) (at .node .unit + 1) (at .state .limit .0) h
+      → Blames (problemOf ws) (entry (at .node .starts)) (at .node .unit + 1) (at .state .limit .0) b
   unfolding TryDue
   judged-recalled h b e r =
       let c : Recall w (at .node .starts) (at .node .unit + 1) (at .state .limit .0) b
@@ -80,11 +80,11 @@ module _ (ws : List ℕ) (l : Layout) (us rows ys : List ℕ) (at : Visit) (w me
 
   -- it is judged
   pub judged-so : (zs memo₁ : List ℕ) (v : Trial) → Judged (problemOf ws) us (at .node) (at .state .limit .0) zs v
-      → Recalls (problemOf ws) (priceIn us) memo₁ → TryJudged ws l us rows ys at w memo zs memo₁ v
+      → MemoTrue (problemOf ws) (priceIn us) memo₁ → TryJudged ws l us rows ys at w memo zs memo₁ v
   unfolding TryDue TryJudged
   judged-so zs memo₁ v said recalls = record { due = d; said = said; recalls = recalls }
 
-  pub judged-met : (h : Hit) (b : ℕ) → h ≡ Cut b → Recalled w (at .node .starts) (at .node .unit + 1) (at .state .limit .0) h
+  pub judged-met : (h : Scan) (b : ℕ) → h ≡ Cut b → Recalled w (at .node .starts) (at .node .unit + 1) (at .state .limit .0) h
       → TryJudged ws l us rows ys at w memo ys memo (Fails b)
   unfolding TryDue TryJudged
   judged-met h b e r = record { due = d; said = judged-recalled h b e r; recalls = d .walking .recalls }
@@ -112,7 +112,7 @@ module _ (ws : List ℕ) (l : Layout) (us rows ys : List ℕ) (at : Visit) (memo
   unfolding LeafDue
   file = d .walking .filed
 
-  -- it has a file and a memory
+  -- it has a file and a memo
   pub leaf-filed : Filed ws l
   unfolding LeafDue
   leaf-filed = d .walking .filed
@@ -121,27 +121,27 @@ module _ (ws : List ℕ) (l : Layout) (us rows ys : List ℕ) (at : Visit) (memo
   unfolding LeafDue
   leaf-right = d .walking .recalls .costs
 
-  -- the weeks' worths have 52 places
+  -- the weeks' values have 52 places
   pub leaf-long : 52 ≡ length ys
   unfolding LeafDue
-  leaf-long = sym (d .stands .bounds .worths .long)
+  leaf-long = sym (d .stands .bounds .values .long)
 
   -- what its cost asks
-  pub leaf-rows : Rows (problemOf ws) (placed (problemOf ws) (startIn (at .node .starts)) (l .units)) rows
+  pub leaf-rows : Rows (problemOf ws) (placed (problemOf ws) (entry (at .node .starts)) (l .units)) rows
   unfolding LeafDue
-  leaf-rows = subst (λ (k : ℕ). Rows (problemOf ws) (placed (problemOf ws) (startIn (at .node .starts)) k) rows) (d .whole) (d .tallied)
+  leaf-rows = subst (λ (k : ℕ). Rows (problemOf ws) (placed (problemOf ws) (entry (at .node .starts)) k) rows) (d .whole) (d .tallied)
 
   -- there are sixteen units at most
   pub leaf-few : at .node .unit < 32
   unfolding LeafDue
   leaf-few = omega (arith, d .whole, file .units-most)
 
-  -- the memory recalls what it did
-  pub leaf-recalls : (memo₁ : List ℕ) → Right (problemOf ws) memo₁ → Others memo memo₁ → Recalls (problemOf ws) (priceIn us) memo₁
+  -- the memo recalls what it did
+  pub leaf-recalls : (memo₁ : List ℕ) → Right (problemOf ws) memo₁ → Others memo memo₁ → MemoTrue (problemOf ws) (priceIn us) memo₁
   unfolding LeafDue
   leaf-recalls memo₁ = recalls-others (problemOf ws) (priceIn us) memo memo₁ (d .walking .recalls)
 
-  module _ (cost : ℕ) (e : cost ≡ paid (problemOf ws) (placed (problemOf ws) (startIn (at .node .starts)) (l .units))) where
+  module _ (cost : ℕ) (e : cost ≡ paid (problemOf ws) (placed (problemOf ws) (entry (at .node .starts)) (l .units))) where
     -- the schedule costs the limit or more, and all are to blame
     pub leaf-dear : (b : ℕ) (step : Step) → at .state .limit .0 ≤ cost → ((i : ℕ) → has b i ≡ ltb i (at .node .unit)) → step ≡ deadAt (at .state) b
         → Leaf (problemOf ws) (at .node .starts) (at .state) step
@@ -149,7 +149,7 @@ module _ (ws : List ℕ) (l : Layout) (us rows ys : List ℕ) (at : Visit) (memo
     leaf-dear b step le all is = inl (record {
       b = b;
       is = is;
-      blames = all-blames ws l (startIn (at .node .starts)) (at .node .unit) cost b (at .state .limit .0) file (d .whole) e le all;
+      blames = all-blames ws l (entry (at .node .starts)) (at .node .unit) cost b (at .state .limit .0) file (d .whole) e le all;
     })
 
     -- it costs less
@@ -185,16 +185,16 @@ module _ (ws : List ℕ) (l : Layout) (us ys : List ℕ) (at : Visit) (c : Euro)
     c = c;
     b = b;
     is = is ∙ ap (λ (x : State). deadAt x b) es;
-    costs = d .costs ∙ ap (λ (k : ℕ). paid (problemOf ws) (placed (problemOf ws) (startIn (at .node .starts)) k)) (sym (d .bounded .filed .units-are));
+    costs = d .costs ∙ ap (λ (k : ℕ). paid (problemOf ws) (placed (problemOf ws) (entry (at .node .starts)) k)) (sym (d .bounded .filed .units-are));
     less = d .less;
     blames = go (decLe (c .0 + totalIn us) (at .node .bound .0));
   }
     where
-      go : Dec (c .0 + totalIn us ≤ at .node .bound .0) → Blames (problemOf ws) (startIn (at .node .starts)) (problemOf ws .units) (c .0) b
+      go : Dec (c .0 + totalIn us ≤ at .node .bound .0) → Blames (problemOf ws) (entry (at .node .starts)) (problemOf ws .units) (c .0) b
       go (yes q) = record {
         closed = h .closed q;
         within = λ i g. let k = h .within i g in omega (arith, d .whole, d .bounded .filed .units-are);
       }
       go (no q) =
-          all-blames ws l (startIn (at .node .starts)) (at .node .unit) (c .0) b (c .0) (d .bounded .filed) (d .whole) (d .costs) (omega arith)
+          all-blames ws l (entry (at .node .starts)) (at .node .unit) (c .0) b (c .0) (d .bounded .filed) (d .whole) (d .costs) (omega arith)
           (h .all (omega arith))

@@ -3,7 +3,7 @@ pub mod PlaceLaws
 -- one state after another
 pub mod StateLaws
 -- a dead end noted
-pub mod LearntLaws
+pub mod NotedLaws
 -- a start judged
 pub mod JudgedLaws
 -- a start tried

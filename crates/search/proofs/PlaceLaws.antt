@@ -9,6 +9,7 @@ use native.Mathlib.Omega.{arith}
 use lib.ListN.{length, set}
 use lib.Seq.{getD-set-same, getD-set-other}
 use Rattle.sums.specs.Sum.{sumTo}
+use Rattle.sums.specs.Table.{entry}
 use Rattle.sums.proofs.SumLaws.{sum-suc, sum-same}
 use Rattle.model.specs.Problem.{Problem}
 use Rattle.model.specs.Domain.{startsBelow, startCount}
@@ -16,23 +17,22 @@ use Rattle.model.specs.Order.{Same}
 use Rattle.model.specs.Prefix.{treeSize, passedAt, passed}
 use Rattle.overhaul.specs.Range.{StartRange}
 use Rattle.overhaul.proofs.StartLaws.{below-start}
-use Rattle.blame.specs.Closed.{startIn}
 use Rattle.search.specs.Walk.{tryRoom, placeRoom}
 
 -- ---- an array in which one start is replaced
 
 -- the start that was put
-pub put-here : (xs : List ℕ) (j v : ℕ) → j < length xs → startIn (set xs j v) j ≡ v
-unfolding startIn
+pub put-here : (xs : List ℕ) (j v : ℕ) → j < length xs → entry (set xs j v) j ≡ v
+unfolding entry
 put-here xs j v long = getD-set-same xs j v 0 long
 
 -- the others
-pub put-other : (xs : List ℕ) (j v i : ℕ) → (i ≡ j → ⊥) → startIn (set xs j v) i ≡ startIn xs i
-unfolding startIn
+pub put-other : (xs : List ℕ) (j v i : ℕ) → (i ≡ j → ⊥) → entry (set xs j v) i ≡ entry xs i
+unfolding entry
 put-other xs j v i ne = getD-set-other xs j i v 0 ne
 
 -- those before it
-pub put-below : (xs : List ℕ) (j v : ℕ) → Same j (startIn (set xs j v)) (startIn xs)
+pub put-below : (xs : List ℕ) (j v : ℕ) → Same j (entry (set xs j v)) (entry xs)
 put-below xs j v k l = put-other xs j v k (λ e. omega arith)
 
 -- ---- places below
@@ -73,14 +73,14 @@ passed-agree p starts other k same =
 
 -- at start v of unit j: those before unit j, those below its smaller starts, and this one
 pub passed-start : (p : Problem) (xs : List ℕ) (j first last v : ℕ) → StartRange p j first last → v ≤ last + 1 → j < length xs
-    → passed p (startIn (set xs j v)) (j + 1) ≡ passed p (startIn xs) j + (v - first) * tryRoom p j + 1
+    → passed p (entry (set xs j v)) (j + 1) ≡ passed p (entry xs) j + (v - first) * tryRoom p j + 1
 unfolding passedAt
 passed-start p xs j first last v range h long =
-    let a = passed-next p (startIn (set xs j v)) j in
-    let b = passed-agree p (startIn (set xs j v)) (startIn xs) j (put-below xs j v) in
-    let c : startsBelow p j (startIn (set xs j v) j) ≡ v - first = ap (startsBelow p j) (put-here xs j v long)
+    let a = passed-next p (entry (set xs j v)) j in
+    let b = passed-agree p (entry (set xs j v)) (entry xs) j (put-below xs j v) in
+    let c : startsBelow p j (entry (set xs j v) j) ≡ v - first = ap (startsBelow p j) (put-here xs j v long)
     ∙ below-start p j first last range v h in
-    let d : startsBelow p j (startIn (set xs j v) j) * tryRoom p j ≡ (v - first) * tryRoom p j = ap (λ (n : ℕ). n * tryRoom p j) c in
+    let d : startsBelow p j (entry (set xs j v) j) * tryRoom p j ≡ (v - first) * tryRoom p j = ap (λ (n : ℕ). n * tryRoom p j) c in
     omega (arith, a, b, d)
 
 -- ---- the measure: the count of places remaining falls

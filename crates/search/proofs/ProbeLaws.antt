@@ -10,13 +10,13 @@ use Rattle.model.specs.declared.Layout.{Layout}
 use Rattle.model.specs.Words.{problemOf}
 use Rattle.instance.specs.declared.Euro.{Euro}
 use Rattle.tables.specs.Tables.{priceIn}
-use Rattle.relaxation.specs.Relaxed.{Recalls}
+use Rattle.relaxation.specs.Relaxed.{MemoTrue}
 use Rattle.state.specs.declared.State.{State}
 use Rattle.state.specs.declared.Step.{Step}
 use Rattle.state.specs.declared.Walked.{Walked}
 use Rattle.state.specs.declared.Walked.the-variants.{Dead, Spent}
 use Rattle.state.specs.State.{renewedAt}
-use Rattle.search.specs.Walk.{Leads, Incumbent, Walking, Fresh, WalkDue, Closes, Carried, Finished, Unspent, Settles}
+use Rattle.search.specs.Walk.{IsIncumbent, Incumbent, Walking, Fresh, WalkDue, Closes, Carried, Finished, Unspent, EndsWithPlan}
 use Rattle.search.proofs.StateLaws.{carried-same, carried-next, held-carried}
 
 -- ---- walks under other limits
@@ -43,8 +43,8 @@ unfolding Probes
 probes-start ws l us w memo st d = record { walking = d .walking; fresh = d .fresh; carried = carried-same (problemOf ws) w (st .used) }
 
 module _ (ws : List ℕ) (l : Layout) (us w₀ : List ℕ) (st : State) (w : List ℕ) (s : State) (memo : List ℕ) (h : Probes ws l us w₀ st w s memo) where
-  -- the memory recalls
-  pub probes-recalls : Recalls (problemOf ws) (priceIn us) memo
+  -- the memo recalls
+  pub probes-recalls : MemoTrue (problemOf ws) (priceIn us) memo
   unfolding Probes
   probes-recalls = h .walking .recalls
 
@@ -72,7 +72,7 @@ module _ (ws : List ℕ) (l : Layout) (us w₀ : List ℕ) (st : State) (w : Lis
       unfolding Probes
       carries = carried-next (problemOf ws) w₀ w w′ (st .used) (s .used) (step .state .used) (h .carried) (f .later .carried)
 
-      next : (memo′ : List ℕ) → Recalls (problemOf ws) (priceIn us) memo′ → Probes ws l us w₀ st w′ (step .state) memo′
+      next : (memo′ : List ℕ) → MemoTrue (problemOf ws) (priceIn us) memo′ → Probes ws l us w₀ st w′ (step .state) memo′
       unfolding Probes
       next memo′ recalls = record {
         walking = record { filed = h .walking .filed; dual = h .walking .dual; recalls = recalls };
@@ -93,7 +93,7 @@ module _ (ws : List ℕ) (l : Layout) (us w₀ : List ℕ) (st : State) (w : Lis
             under = omega (arith, f .later .falls, i .under);
             none = λ z. true-false (sym found ∙ z);
             plan = λ z.
-                let b : Leads (problemOf ws) (c .0 - 1) (step .state .best) (step .state .limit .0) = low .plan z in
+                let b : IsIncumbent (problemOf ws) (c .0 - 1) (step .state .best) (step .state .limit .0) = low .plan z in
                 record { sound = b .sound; costs = b .costs; allowed = omega (arith, b .allowed, i .under); first = b .first };
           }
 
@@ -102,7 +102,7 @@ module _ (ws : List ℕ) (l : Layout) (us w₀ : List ℕ) (st : State) (w : Lis
       ends-unspent (Spent m) u x = absurd u
 
       -- so it ends the ask
-      found : (r : Bool) → Settles step r → r ≡ true → 1 ≤ c .0 → Finished (problemOf ws) w₀ w′ st step
+      found : (r : Bool) → EndsWithPlan step r → r ≡ true → 1 ≤ c .0 → Finished (problemOf ws) w₀ w′ st step
       found r t e some = record {
         later = record {
           falls = omega (arith, f .later .falls);
@@ -119,10 +119,10 @@ module _ (ws : List ℕ) (l : Layout) (us w₀ : List ℕ) (st : State) (w : Lis
     probe-due = begins (record { 0 = root .0 + gap .0 + 1 }) left (omega arith) probe is
 
     module _ (w′ : List ℕ) (step : Step) (finished : Finished (problemOf ws) w w′ probe step) where
-      pub probe-next : (memo′ : List ℕ) → Recalls (problemOf ws) (priceIn us) memo′ → Probes ws l us w₀ st w′ (step .state) memo′
+      pub probe-next : (memo′ : List ℕ) → MemoTrue (problemOf ws) (priceIn us) memo′ → Probes ws l us w₀ st w′ (step .state) memo′
       probe-next = next (record { 0 = root .0 + gap .0 + 1 }) left (omega arith) probe is w′ step finished
 
-      pub probe-found : (r : Bool) → Settles step r → r ≡ true → Finished (problemOf ws) w₀ w′ st step
+      pub probe-found : (r : Bool) → EndsWithPlan step r → r ≡ true → Finished (problemOf ws) w₀ w′ st step
       probe-found r t e = found (record { 0 = root .0 + gap .0 + 1 }) left (omega arith) probe is w′ step finished r t e (omega arith)
 
   -- the last walk, at the first limit and with the whole budget
@@ -151,9 +151,9 @@ module _ (ws : List ℕ) (l : Layout) (us w₀ : List ℕ) (st : State) (w : Lis
 -- ---- whether a walk settles the ask
 
 -- a spent one does not
-pub settles-spent : (step : Step) → Settles step false
+pub settles-spent : (step : Step) → EndsWithPlan step false
 settles-spent step = record { plan = λ e. true-false (sym e); unspent = λ e. true-false (sym e) }
 
 -- another does where it has a plan
-pub settles-dead : (step : Step) (w : Walked) (b : ℕ) → step .walked ≡ w → w ≡ Dead b → Settles step (step .state .found)
+pub settles-dead : (step : Step) (w : Walked) (b : ℕ) → step .walked ≡ w → w ≡ Dead b → EndsWithPlan step (step .state .found)
 settles-dead step w b e is = record { plan = λ z. z; unspent = λ _. subst Unspent (sym (e ∙ is)) tt }

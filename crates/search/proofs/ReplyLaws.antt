@@ -11,6 +11,7 @@ use lib.ListN.{length, getD}
 use lib.Dec.{ltb}
 use Rattle.sums.specs.Sum.{sumTo}
 use Rattle.sums.specs.Range.{listTo}
+use Rattle.sums.specs.Table.{entry}
 use Rattle.sums.proofs.LogicLaws.{and-of}
 use Rattle.sums.proofs.RangeLaws.{list-length, list-at}
 use Rattle.sums.proofs.SumLaws.{sum-same}
@@ -25,13 +26,12 @@ use Rattle.model.proofs.ScheduleLaws.{sound-agree, cost-agree}
 use Rattle.model.proofs.OrderLaws.{lower-agree, ahead-lower, lower-ahead}
 use Rattle.model.proofs.PrefixLaws.{rank-passed}
 use Rattle.model.proofs.AnswerLaws.{marked-below}
-use Rattle.blame.specs.Closed.{startIn}
 use Rattle.blame.specs.Placed.{planOf}
 use Rattle.bound.specs.Tests.{RunsOf}
 use Rattle.state.specs.declared.State.{State}
 use Rattle.state.specs.declared.Walked.{Walked}
 use Rattle.state.specs.declared.Walked.the-variants.{Dead, Spent}
-use Rattle.search.specs.Walk.{Leads, Incumbent, Halted, Closes}
+use Rattle.search.specs.Walk.{IsIncumbent, Incumbent, Halted, Closes}
 use Rattle.search.specs.Ask.{answerFor, answerIn}
 
 -- ---- a schedule as an answer has it
@@ -50,34 +50,34 @@ earlier-to : (p : Problem) (q s t : Schedule) → Alike p s t → Earlier p q s 
 earlier-to p q s t alike (inl l) = inl (lower-to (alike .0) l)
 earlier-to p q s t alike (inr (same, l)) = inr ((λ k h. same k h ∙ alike .0 k h), lower-to (alike .1) l)
 
-module _ (p : Problem) (fair : Fair p) (ceiling limit : ℕ) (best runs : List ℕ) (leads : Leads p ceiling best limit) (are : RunsOf p
-    (startIn best) runs) where
+module _ (p : Problem) (fair : Fair p) (ceiling limit : ℕ) (best runs : List ℕ) (leads : IsIncumbent p ceiling best limit) (are : RunsOf p
+    (entry best) runs) where
   -- the schedule of an answer's lists
   abbrev told : Schedule
-  told = scheduleOf (listTo (p .units) (startIn best)) (listTo (p .weeks) (startIn runs))
+  told = scheduleOf (listTo (p .units) (entry best)) (listTo (p .weeks) (entry runs))
 
-  told-alike : Alike p told (planOf p (startIn best))
-  unfolding startIn
-  told-alike = ((λ k h. list-at (p .units) (startIn best) k h), (λ t h. list-at (p .weeks) (startIn runs) t h ∙ are .each t h))
+  told-alike : Alike p told (planOf p (entry best))
+  unfolding entry
+  told-alike = ((λ k h. list-at (p .units) (entry best) k h), (λ t h. list-at (p .weeks) (entry runs) t h ∙ are .each t h))
 
   told-sound : Sound p told
-  told-sound = sound-agree p (planOf p (startIn best)) told told-alike fair (leads .sound)
+  told-sound = sound-agree p (planOf p (entry best)) told told-alike fair (leads .sound)
 
   told-cost : cost p told ≡ limit
-  told-cost = cost-agree p (planOf p (startIn best)) told told-alike (leads .sound .schedule) ∙ leads .costs
+  told-cost = cost-agree p (planOf p (entry best)) told told-alike (leads .sound .schedule) ∙ leads .costs
 
   -- it is the best of a region in which nothing is below the limit
   pub told-found : (In : Region) → In told → ((q : Schedule) → Sound p q → In q → limit ≤ cost p q)
-      → Found p ceiling In limit (listTo (p .units) (startIn best)) (listTo (p .weeks) (startIn runs))
+      → Found p ceiling In limit (listTo (p .units) (entry best)) (listTo (p .weeks) (entry runs))
   told-found In inside least = record {
-    starts = list-length (p .units) (startIn best);
-    runs = list-length (p .weeks) (startIn runs);
+    starts = list-length (p .units) (entry best);
+    runs = list-length (p .weeks) (entry runs);
     costs = told-cost;
     best = record {
       allowed = record { sound = told-sound; cheap = omega (arith, told-cost, leads .allowed) };
       inside = inside;
       least = λ q sound h. omega (arith, told-cost, least q sound h);
-      first = λ q sound h earlier. omega (arith, told-cost, leads .first q sound (earlier-to p q told (planOf p (startIn best)) told-alike earlier));
+      first = λ q sound h earlier. omega (arith, told-cost, leads .first q sound (earlier-to p q told (planOf p (entry best)) told-alike earlier));
     };
   }
 
@@ -96,13 +96,13 @@ starts-from p i (s ∷ ss) h =
 module _ (p : Problem) (fair : Fair p) (budget : ℕ) (st : State) (m : ℕ) (h : Halted p budget st m) where
   -- the mark's starts
   abbrev marks : List ℕ
-  marks = listTo m (startIn (st .mark))
+  marks = listTo m (entry (st .mark))
 
   marks-long : length marks ≡ m
-  marks-long = list-length m (startIn (st .mark))
+  marks-long = list-length m (entry (st .mark))
 
-  marks-at : Same m (λ i. getD marks i 0) (startIn (st .mark))
-  marks-at k l = list-at m (startIn (st .mark)) k l
+  marks-at : Same m (λ i. getD marks i 0) (entry (st .mark))
+  marks-at k l = list-at m (entry (st .mark)) k l
 
   marks-valid : ValidPrefix p marks
   marks-valid = record {
@@ -113,43 +113,43 @@ module _ (p : Problem) (fair : Fair p) (budget : ℕ) (st : State) (m : ℕ) (h 
         subst (λ (n : ℕ). permitted p n (getD marks k 0) ≡ true) (sym (zero-add k)) (ap (permitted p k) (marks-at k d) ∙ h .permits k d));
   }
 
-  marks-passed : passed p (λ i. getD marks i 0) (length marks) ≡ passed p (startIn (st .mark)) m
+  marks-passed : passed p (λ i. getD marks i 0) (length marks) ≡ passed p (entry (st .mark)) m
   unfolding passed passedAt
   marks-passed =
       ap (λ (n : ℕ). sumTo n (passedAt p (λ i. getD marks i 0))) marks-long
-      ∙ sum-same m (passedAt p (λ i. getD marks i 0)) (passedAt p (startIn (st .mark))) (λ i l. ap (λ (v : ℕ). startsBelow p i v * treeSize p
+      ∙ sum-same m (passedAt p (λ i. getD marks i 0)) (passedAt p (entry (st .mark))) (λ i l. ap (λ (v : ℕ). startsBelow p i v * treeSize p
       (p .units - suc i) + 1) (marks-at i l))
 
   -- it is a place of rank at least the budget
-  pub halted-marked : Marked p budget (listTo m (startIn (st .mark)))
+  pub halted-marked : Marked p budget (listTo m (entry (st .mark)))
   halted-marked = record { prefix = marks-valid; late = omega (arith, rank-passed p fair marks marks-valid, marks-passed, h .late) }
 
   -- a schedule before it is lower
-  ahead-of : (q : Schedule) → Ahead p marks q → Lower ltb m (q .start) (startIn (st .mark))
+  ahead-of : (q : Schedule) → Ahead p marks q → Lower ltb m (q .start) (entry (st .mark))
   ahead-of q a =
-      subst (λ (n : ℕ). Lower ltb n (q .start) (startIn (st .mark))) marks-long
+      subst (λ (n : ℕ). Lower ltb n (q .start) (entry (st .mark))) marks-long
       (lower-to (λ k l. marks-at k (omega (arith, marks-long))) (ahead-lower p q marks (marks-valid .within) a))
 
   -- and a lower one is before it
-  to-ahead : (q : Schedule) → Lower ltb m (q .start) (startIn (st .mark)) → Ahead p marks q
+  to-ahead : (q : Schedule) → Lower ltb m (q .start) (entry (st .mark)) → Ahead p marks q
   to-ahead q l =
       lower-ahead p q marks (marks-valid .within)
       (subst (λ (n : ℕ). Lower ltb n (q .start) (λ i. getD marks i 0)) (sym marks-long) (lower-to (λ k d. sym (marks-at k d)) l))
 
   -- nothing before it is below the limit
-  pub halted-least : (q : Schedule) → Sound p q → Ahead p (listTo m (startIn (st .mark))) q → st .limit .0 ≤ cost p q
+  pub halted-least : (q : Schedule) → Sound p q → Ahead p (listTo m (entry (st .mark))) q → st .limit .0 ≤ cost p q
   halted-least q sound a = h .settled .costs q sound (ahead-of q a)
 
 -- ---- the four answers
 
 module _ (p : Problem) (fair : Fair p) (ceiling budget : ℕ) (st : State) (runs : List ℕ) (inc : Incumbent p ceiling st)
-    (are : st .found ≡ true → RunsOf p (startIn (st .best)) runs) where
+    (are : st .found ≡ true → RunsOf p (entry (st .best)) runs) where
   -- nothing is at or below the ceiling where nothing is below the limit
   none-below : st .found ≡ false → (In : Region) → ((q : Schedule) → Sound p q → In q → st .limit .0 ≤ cost p q) → NoneAllowed p ceiling In
   none-below e In least q inside allowed = omega (arith, inc .none e, least q (allowed .sound) inside, allowed .cheap)
 
   before-mark : (m : ℕ) → Halted p budget st m → st .found ≡ true
-      → Ahead p (listTo m (startIn (st .mark))) (scheduleOf (listTo (p .units) (startIn (st .best))) (listTo (p .weeks) (startIn runs)))
+      → Ahead p (listTo m (entry (st .mark))) (scheduleOf (listTo (p .units) (entry (st .best))) (listTo (p .weeks) (entry runs)))
   before-mark m h e =
       to-ahead p fair budget st m h (told p fair ceiling (st .limit .0) (st .best) runs (inc .plan e) (are e))
       (lower-agree ltb (λ k d. told-alike p fair ceiling (st .limit .0) (st .best) runs (inc .plan e) (are e) .0 k (omega (arith, h .within)))
@@ -166,12 +166,12 @@ module _ (p : Problem) (fair : Fair p) (ceiling budget : ℕ) (st : State) (runs
       go false e (Dead b) c = none-below e Everywhere (λ q sound h. c .costs q sound)
       go true e (Spent m) c = (
         halted-marked p fair budget st m c,
-        told-found p fair ceiling (st .limit .0) (st .best) runs (inc .plan e) (are e) (Ahead p (listTo m (startIn (st .mark)))) (before-mark m c e)
+        told-found p fair ceiling (st .limit .0) (st .best) runs (inc .plan e) (are e) (Ahead p (listTo m (entry (st .mark)))) (before-mark m c e)
             (halted-least p fair budget st m c),
       )
       go false e (Spent m) c = (
         halted-marked p fair budget st m c,
-        none-below e (Ahead p (listTo m (startIn (st .mark))))
+        none-below e (Ahead p (listTo m (entry (st .mark))))
             (halted-least p fair budget st m c),
       )
 
@@ -181,5 +181,5 @@ pub never-spent : (p : Problem) → Fair p → (ceiling budget : ℕ) (st : Stat
 never-spent p fair ceiling budget st runs m h c = go (st .found) c
   where
     go : (f : Bool) → Correct p ceiling budget (answerFor p (st .limit .0) (st .best) (st .mark) runs f (Spent m)) → ⊥
-    go true c = omega (arith, marked-below p fair budget (listTo m (startIn (st .mark))) (c .0))
-    go false c = omega (arith, marked-below p fair budget (listTo m (startIn (st .mark))) (c .0))
+    go true c = omega (arith, marked-below p fair budget (listTo m (entry (st .mark))) (c .0))
+    go false c = omega (arith, marked-below p fair budget (listTo m (entry (st .mark))) (c .0))

@@ -9,11 +9,12 @@ use Rattle.sums.proofs.LogicLaws.{true-false}
 use Rattle.model.specs.Problem.{Problem}
 use Rattle.model.specs.Nogood.{boundsAlone}
 use Rattle.instance.specs.declared.Euro.{Euro}
+use Rattle.nogood.specs.Noting.{KEPT_FREE}
 use Rattle.nogood.specs.Stock.{DeadEnds}
 use Rattle.nogood.proofs.StockLaws.{grown-none, grown-next}
 use Rattle.state.specs.declared.State.{State}
 use Rattle.state.specs.State.{triedOnce, stoppedAt, improvedBy}
-use Rattle.search.specs.Walk.{Leads, Held, Carried, Later}
+use Rattle.search.specs.Walk.{IsIncumbent, TableTrue, Carried, Later}
 
 -- ---- the table
 
@@ -27,12 +28,12 @@ pub carried-next : (p : Problem) (w w₁ w₂ : List ℕ) (used used₁ used₂ 
     → Carried p w used w₂ used₂
 carried-next p w w₁ w₂ used used₁ used₂ x y = record {
   stock = λ gs h. grown-next p gs w₁ used₁ [] [] w₂ used₂ (x .stock gs h) (y .stock);
-  room = λ n h g. y .room n (x .room n h g) (subst (λ (k : ℕ). k - 32 ≤ n) (sym (x .long)) g);
+  room = λ n h g. y .room n (x .room n h g) (subst (λ (k : ℕ). k - KEPT_FREE ≤ n) (sym (x .long)) g);
   long = y .long ∙ x .long;
 }
 
 -- the table still holds what is true
-pub held-carried : (p : Problem) (w w′ : List ℕ) (used used′ : ℕ) → Held p w used → Carried p w used w′ used′ → Held p w′ used′
+pub held-carried : (p : Problem) (w w′ : List ℕ) (used used′ : ℕ) → TableTrue p w used → Carried p w used w′ used′ → TableTrue p w′ used′
 held-carried p w w′ used used′ h c =
     let g = c .stock (h .nogoods) (h .stock) in
     record { nogoods = h .nogoods ++ g .more; stock = g .stock }
@@ -52,7 +53,7 @@ later-next p w w₁ w₂ a b c x y = record {
 }
 
 -- the table still holds what is true
-pub held-later : (p : Problem) (w w′ : List ℕ) (st st′ : State) → Held p w (st .used) → Later p w st w′ st′ → Held p w′ (st′ .used)
+pub held-later : (p : Problem) (w w′ : List ℕ) (st st′ : State) → TableTrue p w (st .used) → Later p w st w′ st′ → TableTrue p w′ (st′ .used)
 held-later p w w′ st st′ h l = held-carried p w w′ (st .used) (st′ .used) h (l .carried)
 
 -- a try is counted
@@ -73,7 +74,7 @@ later-stopped p w xs k st = record {
 
 -- a better schedule is found, which leads under every ceiling that the limit is under
 pub later-improved : (p : Problem) (w xs : List ℕ) (c : Euro) (st : State) → c .0 < st .limit .0
-    → ((ceiling : ℕ) → st .limit .0 ≤ ceiling + 1 → Leads p ceiling xs (c .0)) → Later p w st w (improvedBy st xs c)
+    → ((ceiling : ℕ) → st .limit .0 ≤ ceiling + 1 → IsIncumbent p ceiling xs (c .0)) → Later p w st w (improvedBy st xs c)
 later-improved p w xs c st less leads = record {
   falls = omega arith;
   kept = λ ceiling h. record {

@@ -8,11 +8,12 @@ use mathlib.Core.Logic.{inl, inr}
 use native.Mathlib.Omega.{arith}
 use borrow.Author.Count.{below-more}
 use Rattle.sums.specs.NumSet.{has}
+use Rattle.sums.specs.Table.{entry}
 use Rattle.model.specs.Problem.{Problem, Fair}
 use Rattle.model.specs.Domain.{permitted}
 use Rattle.model.specs.Schedule.{cost}
 use Rattle.instance.specs.declared.Euro.{Euro}
-use Rattle.blame.specs.Closed.{startIn, Settled}
+use Rattle.blame.specs.Closed.{Settled}
 use Rattle.blame.specs.Placed.{placed, paid, Standing}
 use Rattle.blame.proofs.PlacedLaws.{leaf-sound, leaf-cost, leaf-first}
 use Rattle.dual.specs.declared.Node.{Node}
@@ -22,7 +23,7 @@ use Rattle.bound.specs.Tests.{Blames, Stands}
 use Rattle.state.specs.declared.State.{State}
 use Rattle.state.specs.declared.Step.{Step}
 use Rattle.state.specs.State.{triedOnce, stoppedAt, deadAt, improvedBy}
-use Rattle.search.specs.Walk.{Leads, Open, Untried, Leaf, Done, tryRoom, placeRoom}
+use Rattle.search.specs.Walk.{IsIncumbent, Open, Untried, Leaf, Done, tryRoom, placeRoom}
 use Rattle.search.proofs.PlaceLaws.{tree-some, room-step}
 use Rattle.search.proofs.StateLaws.{later-same, later-next, later-tried, later-stopped, later-improved}
 
@@ -36,7 +37,7 @@ module _ (p : Problem) (w us rows ys : List ℕ) (node : Node) (st : State) (d :
     ends = record {
       some = omega arith;
       within = omega (arith, d .unit);
-      permits = below-more (λ i. permitted p i (startIn (node .starts) i) ≡ true) (node .unit) (d .stands .standing .permits) (d .permits);
+      permits = below-more (λ i. permitted p i (entry (node .starts) i) ≡ true) (node .unit) (d .stands .standing .permits) (d .permits);
       late = omega (arith, d .counted);
       settled = d .settled;
       past = d .past;
@@ -48,7 +49,7 @@ module _ (p : Problem) (w us rows ys : List ℕ) (node : Node) (st : State) (d :
   tried-counted = omega (arith, tree-some p (p .units - suc (node .unit)))
 
   -- the start fails
-  pub done-fails : (b : ℕ) → Blames p (startIn (node .starts)) ((node .unit) + 1) (st .limit .0) b → Done p w w (node .starts) ((node .unit) + 1) (tryRoom p (node .unit)) st (deadAt (triedOnce st) b)
+  pub done-fails : (b : ℕ) → Blames p (entry (node .starts)) ((node .unit) + 1) (st .limit .0) b → Done p w w (node .starts) ((node .unit) + 1) (tryRoom p (node .unit)) st (deadAt (triedOnce st) b)
   done-fails b f = record {
     later = later-tried p w st;
     budget = refl;
@@ -57,8 +58,8 @@ module _ (p : Problem) (w us rows ys : List ℕ) (node : Node) (st : State) (d :
   }
 
   -- it holds, and there is a next unit
-  pub opened : (next zs : List ℕ) (more : Euro) → Stands p us (startIn (node .starts)) ((node .unit) + 1) zs (more .0)
-      → Rows p (placed p (startIn (node .starts)) ((node .unit) + 1)) next → Open p w us next zs (nextNode node more) (triedOnce st)
+  pub opened : (next zs : List ℕ) (more : Euro) → Stands p us (entry (node .starts)) ((node .unit) + 1) zs (more .0)
+      → Rows p (placed p (entry (node .starts)) ((node .unit) + 1)) next → Open p w us next zs (nextNode node more) (triedOnce st)
   opened next zs more stands tallied = record {
     unit = omega (arith, d .unit);
     long = d .long;
@@ -85,21 +86,21 @@ done-place p w w′ xs j st step d = record {
 
 module _ (p : Problem) (w us rows ys : List ℕ) (node : Node) (st : State) (o : Open p w us rows ys node st) (fair : Fair p)
     (whole : node .unit ≡ p .units) where
-  standing-all : Standing p (startIn (node .starts)) (p .units)
-  standing-all = subst (λ (k : ℕ). Standing p (startIn (node .starts)) k) whole (o .stands .standing)
+  standing-all : Standing p (entry (node .starts)) (p .units)
+  standing-all = subst (λ (k : ℕ). Standing p (entry (node .starts)) k) whole (o .stands .standing)
 
   -- a schedule below the limit leads under every ceiling that the limit is under
-  leads : (c : Euro) → c .0 ≡ paid p (placed p (startIn (node .starts)) (p .units)) → c .0 < st .limit .0 → (ceiling : ℕ)
-      → st .limit .0 ≤ ceiling + 1 → Leads p ceiling (node .starts) (c .0)
+  leads : (c : Euro) → c .0 ≡ paid p (placed p (entry (node .starts)) (p .units)) → c .0 < st .limit .0 → (ceiling : ℕ)
+      → st .limit .0 ≤ ceiling + 1 → IsIncumbent p ceiling (node .starts) (c .0)
   leads c e less ceiling under =
-      let settled = subst (λ (k : ℕ). Settled p (startIn (node .starts)) k (st .limit .0)) whole (o .settled) in
+      let settled = subst (λ (k : ℕ). Settled p (entry (node .starts)) k (st .limit .0)) whole (o .settled) in
       record {
-        sound = leaf-sound p (startIn (node .starts)) fair standing-all;
-        costs = leaf-cost p (startIn (node .starts)) fair standing-all ∙ sym e;
+        sound = leaf-sound p (entry (node .starts)) fair standing-all;
+        costs = leaf-cost p (entry (node .starts)) fair standing-all ∙ sym e;
         allowed = omega arith;
         first = λ q sound earlier.
             subst (λ (n : ℕ). n < cost p q) (sym e)
-            (leaf-first p (startIn (node .starts)) fair standing-all (st .limit .0) settled (subst (λ (n : ℕ). n < st .limit .0) e less) q sound earlier);
+            (leaf-first p (entry (node .starts)) fair standing-all (st .limit .0) settled (subst (λ (n : ℕ). n < st .limit .0) e less) q sound earlier);
       }
 
   below : (b : ℕ) → ((i : ℕ) → has b i ≡ true → i < p .units) → (i : ℕ) → has b i ≡ true → i < node .unit

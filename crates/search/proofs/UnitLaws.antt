@@ -12,6 +12,7 @@ use lib.ListN.{length, set, length-set}
 use lib.Dec.{ltb, eqb}
 use borrow.Author.Tests.{ltb-true, lt-ltb, eq-eqb, ne-eqb}
 use Rattle.sums.specs.NumSet.{has, without}
+use Rattle.sums.specs.Table.{entry}
 use Rattle.sums.proofs.LogicLaws.{true-false, and-of, and-left, and-right, or-left, or-right}
 use Rattle.sums.proofs.NumSetLaws.{zero-has}
 use Rattle.model.specs.Problem.{Problem}
@@ -20,7 +21,7 @@ use Rattle.model.specs.Schedule.{Schedule, Sound, cost}
 use Rattle.model.specs.Order.{Same, Lower}
 use Rattle.overhaul.specs.Range.{StartRange}
 use Rattle.overhaul.proofs.StartLaws.{range-in, range-at, start-count}
-use Rattle.blame.specs.Closed.{startIn, Agree, Closed, Settled}
+use Rattle.blame.specs.Closed.{Agree, Closed, Settled}
 use Rattle.blame.specs.Placed.{placed}
 use Rattle.blame.proofs.PlacedLaws.{placed-agree, standing-agree}
 use Rattle.dual.specs.declared.Node.{Node}
@@ -31,13 +32,13 @@ use Rattle.state.specs.declared.State.{State}
 use Rattle.state.specs.declared.Step.{Step}
 use Rattle.state.specs.declared.Walked.the-variants.{Dead, Spent}
 use Rattle.state.specs.State.{deadAt}
-use Rattle.search.specs.Walk.{startAt, Later, UpTo, BeforeStart, Open, Untried, Over, Halted, Ends, Shares, Done, tryRoom, placeRoom}
+use Rattle.search.specs.Walk.{startAt, Later, UpTo, BeforeStart, Open, Untried, DeadEnd, Halted, WalkEnds, Shares, Done, tryRoom, placeRoom}
 use Rattle.search.proofs.PlaceLaws.{put-here, put-other, put-below, room-starts, passed-start}
 use Rattle.search.proofs.StateLaws.{later-same, later-next, held-later}
 
 -- every sound schedule with the starts of xs for the units of b, and with a start of unit j below v, costs at least the limit
 pub record Tried (p : Problem) (xs : List ℕ) (j v b limit : ℕ) : Type 0 where
-  pub costs : (s : Schedule) → Sound p s → Agree p (has b) (startIn xs) (s .start) → s .start j < v → limit ≤ cost p s
+  pub costs : (s : Schedule) → Sound p s → Agree p (has b) (entry xs) (s .start) → s .start j < v → limit ≤ cost p s
 
 -- the starts of unit j from the first on and below v have failed, by the starts of the units of `blame`
 pub record Trying (p : Problem) (w₀ w xs : List ℕ) (j : ℕ) (st₀ st : State) (blame first v : ℕ) : Type 0 where
@@ -59,28 +60,28 @@ shared-of blame b j rest both less union = record { sets = λ k. union k ∙ ap 
 
 module _ (best xs : List ℕ) (j v : ℕ) (long : j < length xs) where
   -- before the place of the next start
-  before-place : BeforeStart best xs j v → Lower ltb (j + 1) (startIn best) (startIn (set xs j v))
+  before-place : BeforeStart best xs j v → Lower ltb (j + 1) (entry best) (entry (set xs j v))
   before-place (inl l) = let h = l .below in record {
     at = l .at;
     below = omega arith;
     same = λ k d. l .same k d ∙ sym (put-below xs j v k (omega arith));
-    less = subst (λ (n : ℕ). ltb (startIn best (l .at)) n ≡ true) (sym (put-below xs j v (l .at) h)) (l .less);
+    less = subst (λ (n : ℕ). ltb (entry best (l .at)) n ≡ true) (sym (put-below xs j v (l .at) h)) (l .less);
   }
   before-place (inr (same, less)) = record {
     at = j;
     below = omega arith;
     same = λ k d. same k d ∙ sym (put-below xs j v k d);
-    less = subst (λ (n : ℕ). ltb (startIn best j) n ≡ true) (sym (put-here xs j v long)) (lt-ltb (startIn best j) v less);
+    less = subst (λ (n : ℕ). ltb (entry best j) n ≡ true) (sym (put-here xs j v long)) (lt-ltb (entry best j) v less);
   }
 
   -- what is lower at or before unit j
-  lower-place : (f : ℕ → ℕ) → Lower ltb (j + 1) f (startIn (set xs j v)) → Lower ltb j f (startIn xs) ⊎ (Same j f (startIn xs) × (f j < v))
+  lower-place : (f : ℕ → ℕ) → Lower ltb (j + 1) f (entry (set xs j v)) → Lower ltb j f (entry xs) ⊎ (Same j f (entry xs) × (f j < v))
   lower-place f l = by (ℕ-discrete (l .at) j)
     where
-      by : Dec (l .at ≡ j) → Lower ltb j f (startIn xs) ⊎ (Same j f (startIn xs) × (f j < v))
+      by : Dec (l .at ≡ j) → Lower ltb j f (entry xs) ⊎ (Same j f (entry xs) × (f j < v))
       by (yes e) = inr (
         (λ k d. l .same k (omega arith) ∙ put-below xs j v k d),
-        ltb-true (f j) v (subst (λ (n : ℕ). ltb (f j) n ≡ true) (put-here xs j v long) (subst (λ (k : ℕ). ltb (f k) (startIn
+        ltb-true (f j) v (subst (λ (n : ℕ). ltb (f j) n ≡ true) (put-here xs j v long) (subst (λ (k : ℕ). ltb (f k) (entry
             (set xs j v) k) ≡ true) e (l .less))),
       )
       by (no ne) =
@@ -95,7 +96,7 @@ module _ (best xs : List ℕ) (j v : ℕ) (long : j < length xs) where
 
   -- a best at or before this start is before the next
   past-next : UpTo best (set xs j v) (j + 1) → BeforeStart best xs j (v + 1)
-  past-next (inl l) = ⊎-elim (λ a. inl a) (λ b. inr (b .0, omega (arith, b .1))) (lower-place (startIn best) l)
+  past-next (inl l) = ⊎-elim (λ a. inl a) (λ b. inr (b .0, omega (arith, b .1))) (lower-place (entry best) l)
   past-next (inr same) = inr (
     (λ k d. same k (omega arith) ∙ put-below xs j v k d),
     (let e = same j (omega arith) in let h = put-here xs j v long in omega arith),
@@ -142,28 +143,28 @@ module _ (p : Problem) (w₀ w us rows ys : List ℕ) (node : Node) (st₀ st : 
   permits-here = range-in p (node .unit) first last v range (t .from) here
 
   -- all schedules before this start
-  settled-here : Settled p (startIn (set (node .starts) (node .unit) v)) ((node .unit) + 1) (st .limit .0)
+  settled-here : Settled p (entry (set (node .starts) (node .unit) v)) ((node .unit) + 1) (st .limit .0)
   settled-here = record { costs = λ s sound l. ⊎-elim (before s sound) (within s sound) (lower-place (node .starts) (node .starts) (node .unit) v long (s .start) l) }
     where
-      before : (s : Schedule) → Sound p s → Lower ltb (node .unit) (s .start) (startIn (node .starts)) → st .limit .0 ≤ cost p s
+      before : (s : Schedule) → Sound p s → Lower ltb (node .unit) (s .start) (entry (node .starts)) → st .limit .0 ≤ cost p s
       before s sound l = le-trans (t .later .falls) (o .settled .costs s sound l)
 
-      within : (s : Schedule) → Sound p s → Same (node .unit) (s .start) (startIn (node .starts)) × (s .start (node .unit) < v) → st .limit .0 ≤ cost p s
+      within : (s : Schedule) → Sound p s → Same (node .unit) (s .start) (entry (node .starts)) × (s .start (node .unit) < v) → st .limit .0 ≤ cost p s
       within s sound m = t .tried .costs s sound (λ i h e. m .0 i (t .under i e)) (m .1)
 
-  stands-here : Stands p us (startIn (set (node .starts) (node .unit) v)) (node .unit) ys (node .bound .0)
+  stands-here : Stands p us (entry (set (node .starts) (node .unit) v)) (node .unit) ys (node .bound .0)
   stands-here =
-      let same : Same (node .unit) (startIn (node .starts)) (startIn (set (node .starts) (node .unit) v)) = λ k d. sym (put-below (node .starts) (node .unit) v k d) in
+      let same : Same (node .unit) (entry (node .starts)) (entry (set (node .starts) (node .unit) v)) = λ k d. sym (put-below (node .starts) (node .unit) v k d) in
       record {
-        standing = standing-agree p (startIn (node .starts)) (startIn (set (node .starts) (node .unit) v)) (node .unit) same (o .stands .standing);
-        bounds = bounds-agree p us (startIn (node .starts)) (startIn (set (node .starts) (node .unit) v)) ys (node .unit) (node .bound .0) same (o .stands .bounds);
+        standing = standing-agree p (entry (node .starts)) (entry (set (node .starts) (node .unit) v)) (node .unit) same (o .stands .standing);
+        bounds = bounds-agree p us (entry (node .starts)) (entry (set (node .starts) (node .unit) v)) ys (node .unit) (node .bound .0) same (o .stands .bounds);
       }
 
-  tallied-here : Rows p (placed p (startIn (set (node .starts) (node .unit) v)) (node .unit)) rows
+  tallied-here : Rows p (placed p (entry (set (node .starts) (node .unit) v)) (node .unit)) rows
   tallied-here = record {
     long = o .tallied .long;
     tallies = o .tallied .tallies;
-    sets = λ d l i. o .tallied .sets d l i ∙ placed-agree p (startIn (node .starts)) (startIn (set (node .starts) (node .unit) v)) (node .unit) (λ k m. sym (put-below (node .starts) (node .unit) v k m)) d i;
+    sets = λ d l i. o .tallied .sets d l i ∙ placed-agree p (entry (node .starts)) (entry (set (node .starts) (node .unit) v)) (node .unit) (λ k m. sym (put-below (node .starts) (node .unit) v k m)) d i;
   }
 
   -- the next start is tried
@@ -205,18 +206,18 @@ module _ (p : Problem) (w₀ w us rows ys : List ℕ) (node : Node) (st₀ st : 
     -- the budget is spent
     pub done-spent : (m : ℕ) → step .walked ≡ Spent m → Done p w₀ w′ (node .starts) (node .unit) (placeRoom p (node .unit)) st₀ step
     done-spent m e =
-        let h : Halted p (st .budget) (step .state) m = subst (Ends p (st .budget) (set (node .starts) (node .unit) v) ((node .unit) + 1) (step .state)) e (d .ends) in
+        let h : Halted p (st .budget) (step .state) m = subst (WalkEnds p (st .budget) (set (node .starts) (node .unit) v) ((node .unit) + 1) (step .state)) e (d .ends) in
         record {
           later = later-here;
           budget = d .budget ∙ t .budget;
           counted = within-room (step .state .tries) (d .counted);
-          ends = subst (Ends p (st₀ .budget) (node .starts) (node .unit) (step .state)) (sym e)
+          ends = subst (WalkEnds p (st₀ .budget) (node .starts) (node .unit) (step .state)) (sym e)
               (subst (λ (n : ℕ). Halted p n (step .state) m) (t .budget) h);
         }
 
     module _ (b : ℕ) (e : step .walked ≡ Dead b) where
-      over : Over p (set (node .starts) (node .unit) v) ((node .unit) + 1) (step .state) b
-      over = subst (Ends p (st .budget) (set (node .starts) (node .unit) v) ((node .unit) + 1) (step .state)) e (d .ends)
+      over : DeadEnd p (set (node .starts) (node .unit) v) ((node .unit) + 1) (step .state) b
+      over = subst (WalkEnds p (st .budget) (set (node .starts) (node .unit) v) ((node .unit) + 1) (step .state)) e (d .ends)
 
       -- unit (node .unit) has no share in the blame: the walk jumps back
       pub done-jump : has b (node .unit) ≡ false → Done p w₀ w′ (node .starts) (node .unit) (placeRoom p (node .unit)) st₀ step
@@ -224,7 +225,7 @@ module _ (p : Problem) (w₀ w us rows ys : List ℕ) (node : Node) (st₀ st : 
         later = later-here;
         budget = d .budget ∙ t .budget;
         counted = within-room (step .state .tries) (d .counted);
-        ends = subst (Ends p (st₀ .budget) (node .starts) (node .unit) (step .state)) (sym e) (record {
+        ends = subst (WalkEnds p (st₀ .budget) (node .starts) (node .unit) (step .state)) (sym e) (record {
           closed = record {
             costs = λ s sound agree. over .closed .costs s sound (λ i h f. agree i h f ∙ sym (put-other (node .starts) (node .unit) v i (other i f)));
           };
@@ -271,15 +272,15 @@ module _ (p : Problem) (w₀ w us rows ys : List ℕ) (node : Node) (st₀ st : 
                   let ne : i ≡ (node .unit) → ⊥ = λ y. true-false (sym n ∙ ap not (eq-eqb i (node .unit) y)) in
                   omega arith
 
-          by : (s : Schedule) → Sound p s → Agree p (has both) (startIn (node .starts)) (s .start) → s .start (node .unit) < v + 1 → Dec (s .start (node .unit) < v)
+          by : (s : Schedule) → Sound p s → Agree p (has both) (entry (node .starts)) (s .start) → s .start (node .unit) < v + 1 → Dec (s .start (node .unit) < v)
               → step .state .limit .0 ≤ cost p s
           by s sound agree less (yes l) = le-trans (d .later .falls) (t .tried .costs s sound (λ i h f. agree i h (left i f)) l)
           by s sound agree less (no l) = over .closed .costs s sound (λ i h f. at i h f (ℕ-discrete i (node .unit)))
             where
-              at : (i : ℕ) → i < p .units → has b i ≡ true → Dec (i ≡ (node .unit)) → s .start i ≡ startIn (set (node .starts) (node .unit) v) i
+              at : (i : ℕ) → i < p .units → has b i ≡ true → Dec (i ≡ (node .unit)) → s .start i ≡ entry (set (node .starts) (node .unit) v) i
               at i h f (yes q) =
                   let y : s .start (node .unit) ≡ v = omega arith in
-                  ap (s .start) q ∙ (y ∙ (sym (put-here (node .starts) (node .unit) v long) ∙ ap (startIn (set (node .starts) (node .unit) v)) (sym q)))
+                  ap (s .start) q ∙ (y ∙ (sym (put-here (node .starts) (node .unit) v long) ∙ ap (entry (set (node .starts) (node .unit) v)) (sym q)))
               at i h f (no ne) = agree i h (right i f ne) ∙ sym (put-other (node .starts) (node .unit) v i ne)
 
 -- ---- all starts have failed
@@ -287,7 +288,7 @@ module _ (p : Problem) (w₀ w us rows ys : List ℕ) (node : Node) (st₀ st : 
 module _ (p : Problem) (w₀ w us rows ys : List ℕ) (node : Node) (st₀ st : State) (blame first last v : ℕ)
     (range : StartRange p (node .unit) first last) (inside : node .unit < p .units) (o : Open p w₀ us rows ys node st₀) (t : Trying p w₀ w (node .starts) (node .unit) st₀ st blame first v)
     (ended : last < v) where
-  closed-all : Closed p (has blame) (startIn (node .starts)) (st .limit .0)
+  closed-all : Closed p (has blame) (entry (node .starts)) (st .limit .0)
   closed-all = record { costs = λ s sound agree. t .tried .costs s sound agree (late s sound) }
     where
       late : (s : Schedule) → Sound p s → s .start (node .unit) < v
@@ -296,7 +297,7 @@ module _ (p : Problem) (w₀ w us rows ys : List ℕ) (node : Node) (st₀ st : 
 
   -- the dead end, before it is noted and after
   pub done-all : (w′ : List ℕ) (r : State)
-      → (Closed p (has blame) (startIn (node .starts)) (st .limit .0) → Later p w st w′ r) → r .limit ≡ st .limit → r .tries ≡ st .tries
+      → (Closed p (has blame) (entry (node .starts)) (st .limit .0) → Later p w st w′ r) → r .limit ≡ st .limit → r .tries ≡ st .tries
       → r .found ≡ st .found → r .best ≡ st .best → r .budget ≡ st .budget
       → Done p w₀ w′ (node .starts) (node .unit) (placeRoom p (node .unit)) st₀ (deadAt r blame)
   done-all w′ r later el et ef eb ebudget = record {

@@ -9,6 +9,7 @@ use mathlib.Core.Logic.{_⊎_}
 use lib.ListN.{length, set}
 use lib.Dec.{ltb}
 use Rattle.sums.specs.NumSet.{has, without}
+use Rattle.sums.specs.Table.{entry}
 use Rattle.model.specs.declared.Layout.{Layout}
 use Rattle.model.specs.Problem.{Problem}
 use Rattle.model.specs.Domain.{permitted, startCount}
@@ -18,12 +19,13 @@ use Rattle.model.specs.Prefix.{treeSize, passed}
 use Rattle.model.specs.Nogood.{MOST_LIMIT, Nogood}
 use Rattle.model.specs.Words.{problemOf}
 use Rattle.instance.specs.Filed.{Filed}
-use Rattle.blame.specs.Closed.{startIn, Closed, Settled}
+use Rattle.blame.specs.Closed.{Closed, Settled}
 use Rattle.blame.specs.Placed.{placed, paid, planOf}
+use Rattle.nogood.specs.Noting.{KEPT_FREE}
 use Rattle.nogood.specs.Stock.{Stock, Grown, DeadEnds}
 use Rattle.bound.specs.Rows.{Rows}
 use Rattle.tables.specs.Tables.{priceIn}
-use Rattle.relaxation.specs.Relaxed.{Recalls}
+use Rattle.relaxation.specs.Relaxed.{MemoTrue}
 use Rattle.dual.specs.declared.Node.{Node}
 use Rattle.dual.specs.Dual.{Dual}
 use Rattle.dual.specs.Blame.{nextNode, Bounded}
@@ -36,37 +38,37 @@ use Rattle.state.specs.declared.Walked.the-variants.{Dead, Spent}
 use Rattle.state.specs.declared.Step.{Step}
 use Rattle.state.specs.State.{triedOnce, deadAt, improvedBy}
 use Rattle.instance.specs.declared.Euro.{Euro}
-use Rattle.search.specs.declared.Visit.{Visit}
-use Rattle.search.specs.declared.Turn.{Turn}
-use Rattle.search.specs.declared.Tried.{Tried}
+use Rattle.search.specs.declared.walk.Visit.{Visit}
+use Rattle.search.specs.declared.walk.Turn.{Turn}
+use Rattle.search.specs.declared.walk.Tried.{Tried}
 
 -- ---- the best so far
 
 -- the starts with each week's cheapest run are a sound schedule at this cost and at or below the ceiling, and every earlier one costs more
-pub record Leads (p : Problem) (ceiling : ℕ) (best : List ℕ) (limit : ℕ) : Type 0 where
-  pub sound : Sound p (planOf p (startIn best))
-  pub costs : cost p (planOf p (startIn best)) ≡ limit
+pub record IsIncumbent (p : Problem) (ceiling : ℕ) (best : List ℕ) (limit : ℕ) : Type 0 where
+  pub sound : Sound p (planOf p (entry best))
+  pub costs : cost p (planOf p (entry best)) ≡ limit
   pub allowed : limit ≤ ceiling
-  pub first : (q : Schedule) → Sound p q → Earlier p q (planOf p (startIn best)) → limit < cost p q
+  pub first : (q : Schedule) → Sound p q → Earlier p q (planOf p (entry best)) → limit < cost p q
 
 -- what a state says of the best so far under a ceiling
 pub record Incumbent (p : Problem) (ceiling : ℕ) (st : State) : Type 0 where
   pub under : st .limit .0 ≤ ceiling + 1
   pub none : st .found ≡ false → st .limit .0 ≡ ceiling + 1
-  pub plan : st .found ≡ true → Leads p ceiling (st .best) (st .limit .0)
+  pub plan : st .found ≡ true → IsIncumbent p ceiling (st .best) (st .limit .0)
 
 -- ---- one state after another
 
 -- the table w holds nogoods that are true, in as many words as are used
-pub record Held (p : Problem) (w : List ℕ) (used : ℕ) : Type 0 where
+pub record TableTrue (p : Problem) (w : List ℕ) (used : ℕ) : Type 0 where
   pub nogoods : List Nogood
   pub stock : Stock p nogoods w used
 
 -- a table w in which so many words are used has become w′ with others: what it held stands there still, with dead ends alone behind it, and the
--- words used grow to the last 32 at most
+-- words used grow to those kept free at most
 pub record Carried (p : Problem) (w : List ℕ) (used : ℕ) (w′ : List ℕ) (used′ : ℕ) : Type 0 where
   pub stock : (gs : List Nogood) → Stock p gs w used → Grown p DeadEnds gs w′ used′
-  pub room : (n : ℕ) → used ≤ n → length w - 32 ≤ n → used′ ≤ n
+  pub room : (n : ℕ) → used ≤ n → length w - KEPT_FREE ≤ n → used′ ≤ n
   pub long : length w′ ≡ length w
 
 -- a walk that was in a state, with the table w, has come to another, with the table w′: its limit has not risen, the best so far is still that, and
@@ -80,11 +82,11 @@ pub record Later (p : Problem) (w : List ℕ) (st : State) (w′ : List ℕ) (st
 
 -- the best lies before the place of the first k starts, or begins with them
 abbrev pub UpTo : (best xs : List ℕ) (k : ℕ) → Type 0
-UpTo best xs k = Lower ltb k (startIn best) (startIn xs) ⊎ Same k (startIn best) (startIn xs)
+UpTo best xs k = Lower ltb k (entry best) (entry xs) ⊎ Same k (entry best) (entry xs)
 
 -- the best lies before the place of the first j starts and then v
 abbrev pub BeforeStart : (best xs : List ℕ) (j v : ℕ) → Type 0
-BeforeStart best xs j v = Lower ltb j (startIn best) (startIn xs) ⊎ (Same j (startIn best) (startIn xs) × (startIn best j < v))
+BeforeStart best xs j v = Lower ltb j (entry best) (entry xs) ⊎ (Same j (entry best) (entry xs) × (entry best j < v))
 
 -- how many places lie at and below one start of unit j
 abbrev pub tryRoom : Problem → ℕ → ℕ
@@ -108,32 +110,32 @@ pub record IsStart (node : Node) (v : ℕ) (st : State) (at : Visit) : Type 0 wh
 pub record Open (p : Problem) (w us rows ys : List ℕ) (node : Node) (st : State) : Type 0 where
   pub unit : node .unit ≤ p .units
   pub long : p .units ≤ length (node .starts)
-  pub stands : Stands p us (startIn (node .starts)) (node .unit) ys (node .bound .0)
-  pub tallied : Rows p (placed p (startIn (node .starts)) (node .unit)) rows
-  pub settled : Settled p (startIn (node .starts)) (node .unit) (st .limit .0)
-  pub past : st .found ≡ true → Lower ltb (node .unit) (startIn (st .best)) (startIn (node .starts))
-  pub counted : st .tries ≤ passed p (startIn (node .starts)) (node .unit)
+  pub stands : Stands p us (entry (node .starts)) (node .unit) ys (node .bound .0)
+  pub tallied : Rows p (placed p (entry (node .starts)) (node .unit)) rows
+  pub settled : Settled p (entry (node .starts)) (node .unit) (st .limit .0)
+  pub past : st .found ≡ true → Lower ltb (node .unit) (entry (st .best)) (entry (node .starts))
+  pub counted : st .tries ≤ passed p (entry (node .starts)) (node .unit)
   pub small : st .limit .0 ≤ MOST_LIMIT
-  pub held : Held p w (st .used)
+  pub held : TableTrue p w (st .used)
 
 -- before the start of its unit is tried
 pub record Untried (p : Problem) (w us rows ys : List ℕ) (node : Node) (st : State) : Type 0 where
   pub unit : node .unit < p .units
   pub long : p .units ≤ length (node .starts)
-  pub permits : permitted p (node .unit) (startIn (node .starts) (node .unit)) ≡ true
-  pub stands : Stands p us (startIn (node .starts)) (node .unit) ys (node .bound .0)
-  pub tallied : Rows p (placed p (startIn (node .starts)) (node .unit)) rows
-  pub settled : Settled p (startIn (node .starts)) (node .unit + 1) (st .limit .0)
-  pub past : st .found ≡ true → Lower ltb (node .unit + 1) (startIn (st .best)) (startIn (node .starts))
-  pub counted : st .tries < passed p (startIn (node .starts)) (node .unit + 1)
+  pub permits : permitted p (node .unit) (entry (node .starts) (node .unit)) ≡ true
+  pub stands : Stands p us (entry (node .starts)) (node .unit) ys (node .bound .0)
+  pub tallied : Rows p (placed p (entry (node .starts)) (node .unit)) rows
+  pub settled : Settled p (entry (node .starts)) (node .unit + 1) (st .limit .0)
+  pub past : st .found ≡ true → Lower ltb (node .unit + 1) (entry (st .best)) (entry (node .starts))
+  pub counted : st .tries < passed p (entry (node .starts)) (node .unit + 1)
   pub small : st .limit .0 ≤ MOST_LIMIT
-  pub held : Held p w (st .used)
+  pub held : TableTrue p w (st .used)
 
--- what every function of the walk has: a file, the table with all its parts, and a memory that recalls at its prices
+-- what every function of the walk has: a file, the table with all its parts, and a memo that recalls at its prices
 pub record Walking (ws : List ℕ) (l : Layout) (us memo : List ℕ) : Type 0 where
   pub filed : Filed ws l
   pub dual : Dual (problemOf ws) us
-  pub recalls : Recalls (problemOf ws) (priceIn us) memo
+  pub recalls : MemoTrue (problemOf ws) (priceIn us) memo
 
 -- what placing a unit asks
 pub record PlaceNeeds (ws : List ℕ) (l : Layout) (us rows ys : List ℕ) (at : Visit) (w memo : List ℕ) : Type 0 where
@@ -156,7 +158,7 @@ TryDue ws l us rows ys at w memo = TryNeeds ws l us rows ys at w memo
 pub record Judging (ws : List ℕ) (l : Layout) (us rows ys : List ℕ) (at : Visit) (w memo zs memo₁ : List ℕ) (v : Trial) : Type 0 where
   pub due : TryNeeds ws l us rows ys at w memo
   pub said : Judged (problemOf ws) us (at .node) (at .state .limit .0) zs v
-  pub recalls : Recalls (problemOf ws) (priceIn us) memo₁
+  pub recalls : MemoTrue (problemOf ws) (priceIn us) memo₁
 
 unfoldable pub TryJudged : (ws : List ℕ) → Layout → (us rows ys : List ℕ) → Visit → (w memo zs memo₁ : List ℕ) → Trial → Type 0
 TryJudged ws l us rows ys at w memo zs memo₁ v = Judging ws l us rows ys at w memo zs memo₁ v
@@ -179,8 +181,8 @@ unfoldable pub TryTaken : (ws : List ℕ) → Layout → (us rows ys : List ℕ)
 TryTaken ws l us rows ys at w memo zs memo₁ r = Taken ws l us rows ys at w memo zs memo₁ r
 
 -- the place of the first k starts is dead, by the starts of the units of b
-pub record Over (p : Problem) (xs : List ℕ) (k : ℕ) (st : State) (b : ℕ) : Type 0 where
-  pub closed : Closed p (has b) (startIn xs) (st .limit .0)
+pub record DeadEnd (p : Problem) (xs : List ℕ) (k : ℕ) (st : State) (b : ℕ) : Type 0 where
+  pub closed : Closed p (has b) (entry xs) (st .limit .0)
   pub within : (i : ℕ) → has b i ≡ true → i < k
   pub past : st .found ≡ true → UpTo (st .best) xs k
 
@@ -188,24 +190,24 @@ pub record Over (p : Problem) (xs : List ℕ) (k : ℕ) (st : State) (b : ℕ) :
 pub record Halted (p : Problem) (budget : ℕ) (st : State) (m : ℕ) : Type 0 where
   pub some : 1 ≤ m
   pub within : m ≤ p .units
-  pub permits : (i : ℕ) → i < m → permitted p i (startIn (st .mark) i) ≡ true
-  pub late : budget < passed p (startIn (st .mark)) m
-  pub settled : Settled p (startIn (st .mark)) m (st .limit .0)
-  pub past : st .found ≡ true → Lower ltb m (startIn (st .best)) (startIn (st .mark))
+  pub permits : (i : ℕ) → i < m → permitted p i (entry (st .mark) i) ≡ true
+  pub late : budget < passed p (entry (st .mark)) m
+  pub settled : Settled p (entry (st .mark)) m (st .limit .0)
+  pub past : st .found ≡ true → Lower ltb m (entry (st .best)) (entry (st .mark))
 
 -- how it went with the place of the first k starts
-abbrev pub Ends : Problem → ℕ → List ℕ → ℕ → State → Walked → Type 0
-Ends p budget xs k st (Dead b) = Over p xs k st b
-Ends p budget xs k st (Spent m) = Halted p budget st m
+abbrev pub WalkEnds : Problem → ℕ → List ℕ → ℕ → State → Walked → Type 0
+WalkEnds p budget xs k st (Dead b) = DeadEnd p xs k st b
+WalkEnds p budget xs k st (Spent m) = Halted p budget st m
 
 -- the units to blame so far, and those of b but unit j
 pub record Shares (blame b j both : ℕ) : Type 0 where
   pub sets : (k : ℕ) → has both k ≡ (has blame k || without (has b) j k)
 
 -- a unit's starts are left: the budget is spent, or unit j has no share in the dead end
-abbrev pub Leaves : ℕ → Walked → Type 0
-Leaves j (Dead b) = has b j ≡ false
-Leaves j (Spent m) = Unit {0}
+abbrev pub LeavesUnit : ℕ → Walked → Type 0
+LeavesUnit j (Dead b) = has b j ≡ false
+LeavesUnit j (Spent m) = Unit {0}
 
 -- the next start is tried: a dead end, whose units but unit j are to blame too
 abbrev pub GoesOn : (blame j both : ℕ) → Walked → Type 0
@@ -214,7 +216,7 @@ GoesOn blame j both (Spent m) = ⊥
 
 -- one or the other
 pub record TurnOf (step : Step) (blame j : ℕ) (turn : Turn) : Type 0 where
-  pub leaves : turn .left ≡ true → Leaves j (step .walked)
+  pub leaves : turn .left ≡ true → LeavesUnit j (step .walked)
   pub goes-on : turn .left ≡ false → GoesOn blame j (turn .blame) (step .walked)
 
 -- after at most `room` tries
@@ -222,7 +224,7 @@ pub record Done (p : Problem) (w w′ xs : List ℕ) (k room : ℕ) (st : State)
   pub later : Later p w st w′ (step .state)
   pub budget : step .state .budget ≡ st .budget
   pub counted : step .state .tries ≤ st .tries + room
-  pub ends : Ends p (st .budget) xs k (step .state) (step .walked)
+  pub ends : WalkEnds p (st .budget) xs k (step .state) (step .walked)
 
 -- the node's unit was placed, as one fact
 unfoldable pub PlaceDone : Problem → (w w′ : List ℕ) → Node → State → Step → Type 0
@@ -238,8 +240,8 @@ TryDone p w w′ at step = Done p w w′ (at .node .starts) (at .node .unit + 1)
 pub record LeafNeeds (ws : List ℕ) (l : Layout) (us rows ys : List ℕ) (at : Visit) (memo : List ℕ) : Type 0 where
   pub walking : Walking ws l us memo
   pub whole : at .node .unit ≡ l .units
-  pub stands : Stands (problemOf ws) us (startIn (at .node .starts)) (at .node .unit) ys (at .node .bound .0)
-  pub tallied : Rows (problemOf ws) (placed (problemOf ws) (startIn (at .node .starts)) (at .node .unit)) rows
+  pub stands : Stands (problemOf ws) us (entry (at .node .starts)) (at .node .unit) ys (at .node .bound .0)
+  pub tallied : Rows (problemOf ws) (placed (problemOf ws) (entry (at .node .starts)) (at .node .unit)) rows
   pub small : at .state .limit .0 ≤ MOST_LIMIT
 
 unfoldable pub LeafDue : (ws : List ℕ) → Layout → (us rows ys : List ℕ) → Visit → (memo : List ℕ) → Type 0
@@ -250,23 +252,23 @@ pub record BetterDue (ws : List ℕ) (l : Layout) (us ys : List ℕ) (at : Visit
   pub bounded : Bounded ws l us (at .node) ys
   pub whole : at .node .unit ≡ l .units
   pub small : at .state .limit .0 ≤ MOST_LIMIT
-  pub costs : c ≡ paid (problemOf ws) (placed (problemOf ws) (startIn (at .node .starts)) (l .units))
+  pub costs : c ≡ paid (problemOf ws) (placed (problemOf ws) (entry (at .node .starts)) (l .units))
   pub less : c < at .state .limit .0
 
 -- the schedule of these starts costs the limit or more, and the units of b are to blame
 pub record Dearer (p : Problem) (xs : List ℕ) (st : State) (step : Step) : Type 0 where
   pub b : ℕ
   pub is : step ≡ deadAt st b
-  pub blames : Blames p (startIn xs) (p .units) (st .limit .0) b
+  pub blames : Blames p (entry xs) (p .units) (st .limit .0) b
 
 -- it costs less: it is the best so far, and the units of b are to blame that all others with their starts cost as much
 pub record Better (p : Problem) (xs : List ℕ) (st : State) (step : Step) : Type 0 where
   pub c : Euro
   pub b : ℕ
   pub is : step ≡ deadAt (improvedBy st xs c) b
-  pub costs : c .0 ≡ paid p (placed p (startIn xs) (p .units))
+  pub costs : c .0 ≡ paid p (placed p (entry xs) (p .units))
   pub less : c .0 < st .limit .0
-  pub blames : Blames p (startIn xs) (p .units) (c .0) b
+  pub blames : Blames p (entry xs) (p .units) (c .0) b
 
 -- one or the other
 abbrev pub Leaf : Problem → List ℕ → State → Step → Type 0
@@ -283,7 +285,7 @@ pub record Fresh (p : Problem) (w : List ℕ) (st : State) : Type 0 where
   pub nothing : st .found ≡ false
   pub tries : st .tries ≡ 0
   pub small : st .limit .0 ≤ MOST_LIMIT
-  pub held : Held p w (st .used)
+  pub held : TableTrue p w (st .used)
 
 -- no sound schedule at all is below the limit; or the walk stopped at its mark
 abbrev pub Closes : Problem → ℕ → State → Walked → Type 0
@@ -313,6 +315,6 @@ Unspent (Dead b) = Unit {0}
 Unspent (Spent m) = ⊥
 
 -- the test whether it did, and with a plan
-pub record Settles (step : Step) (r : Bool) : Type 0 where
+pub record EndsWithPlan (step : Step) (r : Bool) : Type 0 where
   pub plan : r ≡ true → step .state .found ≡ true
   pub unspent : r ≡ true → Unspent (step .walked)

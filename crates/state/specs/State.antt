@@ -8,13 +8,17 @@ use lib.ListN.{length, set}
 use lib.Dec.{ltb}
 use Rattle.sums.specs.Logic.{if}
 use Rattle.sums.specs.NumSet.{has}
+use Rattle.sums.specs.Table.{entry}
 use Rattle.instance.specs.declared.Euro.{Euro}
-use Rattle.blame.specs.Closed.{startIn}
 use Rattle.nogood.specs.Noting.{nogoodFor, notedUsed, noted, endUsed, ended}
 use Rattle.state.specs.declared.State.{State}
 use Rattle.state.specs.declared.Walked.{Walked}
 use Rattle.state.specs.declared.Walked.the-variants.{Dead, Spent}
 use Rattle.state.specs.declared.Step.{Step}
+
+-- 2 ^ 32 - 1: a word of 32 bits counts so many tries
+abbrev pub MOST_TRIES : ℕ
+MOST_TRIES = 4294967295
 
 -- one try more
 abbrev pub triedOnce : State → State
@@ -48,30 +52,30 @@ withTable st ends used =
     record { best = st .best; mark = st .mark; ends = ends; found = st .found; limit = st .limit; tries = st .tries; budget = st .budget; used = used }
 
 -- 2 ^ 16: a word of 16 bits holds the places below it
-abbrev pub PLACES : ℕ
-PLACES = 65536
+abbrev pub INDEXED : ℕ
+INDEXED = 65536
 
 -- the places where conflicts end, with one more that ends at unit i, where it can be held
 unfoldable pub indexedAt : List ℕ → (i end : ℕ) → List ℕ
-indexedAt ends i end = if (ltb end PLACES) (set ends i end) ends
+indexedAt ends i end = if (ltb end INDEXED) (set ends i end) ends
 
 -- the table w has become w′, and the state r, where the dead end of the units of b below k was noted, or not
-pub record Learnt (w w′ : List ℕ) (st r : State) (xs : List ℕ) (k b : ℕ) : Type 0 where
+pub record DeadEndNoted (w w′ : List ℕ) (st r : State) (xs : List ℕ) (k b : ℕ) : Type 0 where
   pub state : r ≡ withTable st (r .ends) (r .used)
-  pub used : r .used ≡ notedUsed (length w) (st .used) (st .limit .0) (nogoodFor (startIn xs) (has b) k (st .limit .0))
-  pub table : w′ ≡ noted w (st .used) (st .limit .0) (nogoodFor (startIn xs) (has b) k (st .limit .0))
+  pub used : r .used ≡ notedUsed (length w) (st .used) (st .limit .0) (nogoodFor (entry xs) (has b) k (st .limit .0))
+  pub table : w′ ≡ noted w (st .used) (st .limit .0) (nogoodFor (entry xs) (has b) k (st .limit .0))
 
 -- the nogood without choices is noted under the state's last bound
-abbrev pub EndNoted : (w w′ : List ℕ) (st r : State) → Type 0
-EndNoted w w′ st r = (r ≡ withTable st (st .ends) (endUsed (st .used) (st .limit .0))) × (w′ ≡ ended w (st .used) (st .limit .0))
+abbrev pub NoneNoted : (w w′ : List ℕ) (st r : State) → Type 0
+NoneNoted w w′ st r = (r ≡ withTable st (st .ends) (endUsed (st .used) (st .limit .0))) × (w′ ≡ ended w (st .used) (st .limit .0))
 
 -- the same at the end of a walk, unless it is spent
-abbrev pub Concluded : (w w′ : List ℕ) (st r : State) → Walked → Type 0
-Concluded w w′ st r (Dead b) = EndNoted w w′ st r
-Concluded w w′ st r (Spent m) = (r ≡ st) × (w′ ≡ w)
+abbrev pub EndNoted : (w w′ : List ℕ) (st r : State) → Walked → Type 0
+EndNoted w w′ st r (Dead b) = NoneNoted w w′ st r
+EndNoted w w′ st r (Spent m) = (r ≡ st) × (w′ ≡ w)
 
 -- a walk that has not begun, under a ceiling and with a budget
-pub record Begun (ceiling budget words : ℕ) (st : State) : Type 0 where
+pub record WalkStart (ceiling budget words : ℕ) (st : State) : Type 0 where
   pub nothing : st .found ≡ false
   pub limit : st .limit .0 ≡ ceiling + 1
   pub tries : st .tries ≡ 0

@@ -1,17 +1,19 @@
-// The state of a walk and its small changes: a try counted, the mark set, a better schedule found; what the walk notes in the table of conflicts and
+// The state of a walk and its small changes: a try counted, the mark set, a better schedule found; what the walk notes in the table of nogoods and
 // what it looks up there. Units count from 0, starts from 1.
 use instance::Euro;
-use nogood::Hit;
+use nogood::CHOICE_RADIX;
+use nogood::Scan;
 ghost use mathlib.Core.Path.{_≡_};
 ghost use Prim.Native.Nat.{_+_, _<_, _≤_};
 ghost use lib.ListN.{length};
 ghost use Rattle.model.specs.Nogood.{MOST_LIMIT};
 ghost use Rattle.nogood.specs.Recall.{Recalled};
-ghost use Rattle.state.specs.State.{triedOnce, stoppedAt, improvedBy, deadAt, renewedAt, withTable, indexedAt, Learnt, EndNoted, Concluded, Begun};
+ghost use Rattle.state.specs.State.{MOST_TRIES, triedOnce, stoppedAt, improvedBy, deadAt, renewedAt, withTable, indexedAt, DeadEndNoted, NoneNoted, EndNoted, WalkStart};
 
-// The walk's state: the starts of the best schedule so far, the mark of a walk that stopped, for each unit where in the table the last conflict that
-// ends at it ends, the limit that a schedule has to stay below, the words of the table in use, the tries made and the most that may be made, and whether there is a best. The
-// fields stand in the order of their sizes: a bool before a wider field leaves 7 bytes between them, and every try copies those too, in two pieces.
+// The walk's state: the starts of the best schedule so far, the mark of a walk that stopped, for each unit where in the table the last nogood that
+// ends at it ends, the limit that a schedule has to stay below, the words of the table in use, the tries made and the most that may be made, and
+// whether there is a best. The fields stand in the order of their sizes: a bool before a wider field leaves 7 bytes between them, and every try
+// copies those too, in two pieces.
 pub struct State {
     pub best: [u8; 16],
     pub mark: [u8; 16],
@@ -39,7 +41,7 @@ pub struct Step {
 
 // One try more.
 pub fn tried(st: State) -> State
-    requires { ⌜ st .tries < 4294967295 ⌝ }
+    requires { ⌜ st .tries < MOST_TRIES ⌝ }
     ensures { λ r. ⌜ r ≡ triedOnce st ⌝ }
 {
     let mut s = st;
@@ -70,7 +72,7 @@ pub fn improved(st: State, starts: [u8; 16], cost: Euro) -> State
     s
 }
 
-// Another number of words is used, and conflicts end at other places.
+// Another number of words is used, and nogoods end at other places.
 fn with_table(st: State, ends: [u16; 16], used: usize) -> State
     ensures { λ r. ⌜ r ≡ withTable st ends used ⌝ }
 {
@@ -93,7 +95,7 @@ pub fn renewed(st: State, limit: Euro, budget: u32) -> State
 }
 
 // A dead end.
-pub fn dead(st: State, b: u32) -> Step
+pub fn dead_end(st: State, b: u32) -> Step
     ensures { λ r. ⌜ r ≡ deadAt st b ⌝ }
 {
     Step {
@@ -102,13 +104,13 @@ pub fn dead(st: State, b: u32) -> Step
     }
 }
 
-// ---- the table of conflicts
+// ---- the table of nogoods
 
-// In how many words of the table a try looks for conflicts.
+// In how many words of the table a try looks for nogoods.
 const WINDOW: usize = 64;
 
 // 2^16: a word of 16 bits holds the places below it.
-const PLACES: usize = 65536;
+const INDEXED: usize = 65536;
 
 // The last unit of a set, 0 where it has none.
 fn last_unit(b: u32) -> usize
@@ -124,12 +126,12 @@ fn last_unit(b: u32) -> usize
     0
 }
 
-// The places where conflicts end, with one more that ends at unit i. They decide which conflicts are looked at, and nothing rests on them.
+// The places where nogoods end, with one more that ends at unit i. They decide which nogoods are looked at, and nothing rests on them.
 fn indexed(ends: [u16; 16], i: usize, end: usize) -> [u16; 16]
     requires { ⌜ i < 16 ⌝ }
     ensures { λ r. ⌜ r ≡ indexedAt ends i end ⌝ }
 {
-    if PLACES <= end {
+    if INDEXED <= end {
         return ends;
     }
     let mut e = ends;
@@ -144,7 +146,7 @@ fn indexed_word(ends: [u16; 16], word: u32, end: usize) -> [u16; 16]
     if words::kind_of(word) != 14 {
         return ends;
     }
-    let unit = words::value_of(word) / 64;
+    let unit = words::value_of(word) / CHOICE_RADIX;
     if unit == 0 {
         return ends;
     }
@@ -154,7 +156,7 @@ fn indexed_word(ends: [u16; 16], word: u32, end: usize) -> [u16; 16]
     indexed(ends, unit - 1, end)
 }
 
-// For each unit, the place after the last choice of it in the table: there the last conflict that ends at it ends, or a later one goes on.
+// For each unit, the place after the last choice of it in the table: there the last nogood that ends at it ends, or a later one goes on.
 fn index(table: &[u32], used: usize) -> [u16; 16]
     requires { ⌜ used ≤ length (now table) ⌝ }
     ensures { λ r. ⌜ length r ≡ 16 ⌝ }
@@ -167,9 +169,9 @@ fn index(table: &[u32], used: usize) -> [u16; 16]
     ends
 }
 
-// A conflict that begins in the words before the place where the last one ends that ends at unit j, of which the starts have all choices, and whose
-// bound is at or above the walk's own.
-pub fn recalled(table: &[u32], st: State, starts: [u8; 16], j: usize) -> Hit
+// A nogood that begins in the words before the place where the last one ends that ends at unit j, of which the starts have all choices, and whose
+// bound is at or above the walk's own (D58).
+pub fn recalled(table: &[u32], st: State, starts: [u8; 16], j: usize) -> Scan
     requires { ⌜ j < 16 ⌝ }
     ensures { λ r. ⌜ Recalled (now (table .entry)) starts (j + 1) (st .limit .0) r ⌝ }
 {
@@ -187,9 +189,9 @@ pub fn recalled(table: &[u32], st: State, starts: [u8; 16], j: usize) -> Hit
 }
 
 // Notes that the starts of the units of b, all below k, are a dead end below the state's limit, where there is space.
-pub fn learnt(table: &mut [u32], st: State, starts: [u8; 16], k: usize, b: u32) -> State
+pub fn note_dead_end(table: &mut [u32], st: State, starts: [u8; 16], k: usize, b: u32) -> State
     requires { ⌜ (st .used ≤ length (now table)) × (k ≤ 16) × (st .limit .0 ≤ MOST_LIMIT) ⌝ }
-    ensures { λ r. ⌜ Learnt (now (table .entry)) (now (table .exit)) st r starts k b ⌝ }
+    ensures { λ r. ⌜ DeadEndNoted (now (table .entry)) (now (table .exit)) st r starts k b ⌝ }
 {
     let limit = st.limit;
     let used = st.used;
@@ -202,10 +204,10 @@ pub fn learnt(table: &mut [u32], st: State, starts: [u8; 16], k: usize, b: u32) 
     with_table(st, next, more)
 }
 
-// Notes the conflict without choices under the state's last bound.
-fn end_noted(table: &mut [u32], st: State) -> State
+// Notes the nogood without choices under the state's last bound.
+fn note_none(table: &mut [u32], st: State) -> State
     requires { ⌜ (st .used < length (now table)) × (st .limit .0 ≤ MOST_LIMIT) ⌝ }
-    ensures { λ r. ⌜ EndNoted (now (table .entry)) (now (table .exit)) st r ⌝ }
+    ensures { λ r. ⌜ NoneNoted (now (table .entry)) (now (table .exit)) st r ⌝ }
 {
     let limit = st.limit;
     let used = st.used;
@@ -215,13 +217,13 @@ fn end_noted(table: &mut [u32], st: State) -> State
 }
 
 // The same where a walk has ended unspent.
-pub fn concluded(table: &mut [u32], st: State, w: Walked) -> State
+pub fn note_end(table: &mut [u32], st: State, w: Walked) -> State
     requires { ⌜ (st .used < length (now table)) × (st .limit .0 ≤ MOST_LIMIT) ⌝ }
-    ensures { λ r. ⌜ Concluded (now (table .entry)) (now (table .exit)) st r w ⌝ }
+    ensures { λ r. ⌜ EndNoted (now (table .entry)) (now (table .exit)) st r w ⌝ }
 {
     match w {
         Walked::Spent(_) => st,
-        Walked::Dead(_) => end_noted(table, st),
+        Walked::Dead(_) => note_none(table, st),
     }
 }
 
@@ -230,7 +232,7 @@ pub fn concluded(table: &mut [u32], st: State, w: Walked) -> State
 // A walk that has not begun.
 pub fn fresh(ceiling: u32, budget: u32, table: &[u32], used: usize) -> State
     requires { ⌜ (ceiling < MOST_LIMIT) × (used ≤ length (now table)) ⌝ }
-    ensures { λ r. ⌜ Begun ceiling budget used r ⌝ }
+    ensures { λ r. ⌜ WalkStart ceiling budget used r ⌝ }
 {
     let ends = index(table, used);
     State {

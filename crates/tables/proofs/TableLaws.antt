@@ -12,16 +12,16 @@ use lib.ListN.{length, getD, set, replicate, length-set, length-replicate, List�
 use lib.Seq.{getD-set-same, getD-set-other}
 use borrow.Author.Tests.{lt-ltb, ltb-true}
 use Rattle.sums.specs.Logic.{if}
+use Rattle.sums.specs.Sum.{sumTo, transposed}
 use Rattle.sums.specs.NumSet.{has}
-use Rattle.sums.proofs.LoopLaws.{zeros-at}
+use Rattle.sums.proofs.LoopLaws.{zeros-at, sum-next}
 use Rattle.model.specs.declared.Layout.{Layout}
 use Rattle.model.specs.Problem.{Problem}
 use Rattle.model.specs.Pairs.{apart}
 use Rattle.model.specs.Words.{problemOf}
 use Rattle.instance.specs.Filed.{Filed}
-use Rattle.instance.proofs.FiledLaws.{units-are}
 use Rattle.overhaul.specs.Off.{offWeeks}
-use Rattle.tables.specs.Tables.{TABLES, PARTNERS, OFFS, START_COSTS, MOST_PRICE, priceAt, priceIn, partnersIn, offIn}
+use Rattle.tables.specs.Tables.{TABLES, PARTNERS, OFFS, START_COSTS, MOST_PRICE, MOST_OFF, priceAt, priceIn, partnersIn, offIn, unitTotal}
 use Rattle.tables.specs.Tables.{Prices, PartnersOf, Partners, Priced, First, Begins}
 
 -- ---- prices
@@ -56,6 +56,24 @@ prices-same xs ys same = fun-ext (λ t. fun-ext (λ i. by (t * 16 + i) (ltb (t *
     by : (k : ℕ) (b : Bool) → (b ≡ true → k < PARTNERS) → if b (getD ys k 0) 0 ≡ if b (getD xs k 0) 0
     by k true h = same k (h refl)
     by k false h = refl
+
+-- ---- all OFF costs and all prices
+
+-- a unit's OFF cost, and no price yet
+pub unit-start : (xs : List ℕ) (i v : ℕ) → v ≡ offIn xs i → v ≡ unitTotal xs 0 i
+unfolding unitTotal sumTo
+unit-start xs i v is = omega arith
+
+-- the price of one week more
+pub unit-next : (xs : List ℕ) (i t s v r : ℕ) → s ≡ unitTotal xs t i → v ≡ priceIn xs t i → r ≡ s + v → r ≡ unitTotal xs (t + 1) i
+unfolding unitTotal transposed
+unit-next xs i t s v r a b c =
+    let z = sum-next (transposed (priceIn xs) i) t (sumTo t (transposed (priceIn xs) i)) v (sumTo t (transposed (priceIn xs) i) + v) refl b refl in
+    omega arith
+
+-- of all weeks
+pub unit-ended : (xs : List ℕ) (i t n m r : ℕ) → r ≡ unitTotal xs t i → t ≤ n → n ≤ t → n ≡ m → r ≡ unitTotal xs m i
+unit-ended xs i t n m r h a b is = let e : t ≡ m = omega arith in rw e at h
 
 -- ---- words written
 
@@ -104,7 +122,7 @@ first-start p = record {
 }
 
 -- one unit more
-pub first-next : (p : Problem) (xs : List ℕ) (n u v w : ℕ) → First p n xs → n < u → u ≤ 16 → ((j : ℕ) → has v j ≡ apart p n j) → w ≡ offWeeks p n → w ≤ 13000000
+pub first-next : (p : Problem) (xs : List ℕ) (n u v w : ℕ) → First p n xs → n < u → u ≤ 16 → ((j : ℕ) → has v j ≡ apart p n j) → w ≡ offWeeks p n → w ≤ MOST_OFF
     → First p (n + 1) (set (set xs (PARTNERS + n) v) (OFFS + n) w)
 unfolding offIn
 first-next p xs n u v w h l few e off small = record {
@@ -133,14 +151,14 @@ first-next p xs n u v w h l few e off small = record {
     by i m (yes q) = rw q (here ∙ off)
     by i m (no q) = old i (omega arith) ∙ h .offs .each i (omega arith)
 
-    most : (i : ℕ) → i < n + 1 → Dec (i ≡ n) → getD (set ys (OFFS + n) w) (OFFS + i) 0 ≤ 13000000
+    most : (i : ℕ) → i < n + 1 → Dec (i ≡ n) → getD (set ys (OFFS + n) w) (OFFS + i) 0 ≤ MOST_OFF
     most i m (yes q) = rw q (omega (arith, here))
     most i m (no q) = omega (arith, old i (omega arith), h .offs .small i (omega arith))
 
 -- all of them
 pub first-ended : (ws : List ℕ) (l : Layout) (xs : List ℕ) (n u : ℕ) → Filed ws l → First (problemOf ws) n xs → u ≡ l .units → n ≤ u → u ≤ n
     → First (problemOf ws) (problemOf ws .units) xs
-first-ended ws l xs n u f h is a b = let e : n ≡ problemOf ws .units = omega (arith, units-are ws l f) in rw e at h
+first-ended ws l xs n u f h is a b = let e : n ≡ problemOf ws .units = omega (arith, f .units-are) in rw e at h
 
 -- such prices are 0
 pub first-priced : (p : Problem) (xs : List ℕ) → First p (p .units) xs → Priced p xs
@@ -179,20 +197,4 @@ begins-priced ws l n xs ys f h far priced = record {
 }
   where
     few : problemOf ws .units ≤ 16
-    few = omega (arith, f .units-most, units-are ws l f)
-
--- ---- prices that move
-
--- a price written leaves partners and OFF costs
-pub priced-put : (ws : List ℕ) (l : Layout) (xs : List ℕ) (k v : ℕ) → Filed ws l → Priced (problemOf ws) xs → k < PARTNERS → v ≤ MOST_PRICE
-    → Priced (problemOf ws) (set xs k v)
-unfolding offIn
-priced-put ws l xs k v f h near few = record {
-  long = length-set xs k v ∙ h .long;
-  prices = prices-put xs k v (h .prices) few;
-  partners = partners-beside (problemOf ws) xs (problemOf ws .units) k v (h .partners) (omega (arith, f .units-most, units-are ws l f)) (inl near);
-  offs = record { each = λ i m. other i ∙ h .offs .each i m; small = λ i m. omega (arith, other i, h .offs .small i m) };
-}
-  where
-    other : (i : ℕ) → getD (set xs k v) (OFFS + i) 0 ≡ getD xs (OFFS + i) 0
-    other i = getD-set-other xs k (OFFS + i) v 0 (λ z. omega arith)
+    few = omega (arith, f .units-most, f .units-are)

@@ -7,6 +7,7 @@ use mathlib.Core.Logic.{_⊎_}
 use lib.ListN.{length, getD}
 use lib.Dec.{ltb}
 use Rattle.sums.specs.Logic.{if}
+use Rattle.sums.specs.Sum.{sumTo, transposed}
 use Rattle.sums.specs.NumSet.{has}
 use Rattle.model.specs.Problem.{Problem}
 use Rattle.model.specs.Pairs.{apart}
@@ -73,11 +74,28 @@ rootIn xs t = getD xs (ROOT_VALUES + t) 0
 unfoldable pub totalIn : List ℕ → ℕ
 totalIn xs = getD xs TOTAL 0
 
+-- what unit i costs OFF over the season, and its prices in the first n weeks
+unfoldable pub unitTotal : List ℕ → (n i : ℕ) → ℕ
+unfolding priceIn offIn
+unitTotal xs n i = offIn xs i + sumTo n (transposed (priceIn xs) i)
+
 -- ---- ranges and partners
 
 -- the highest price
 abbrev pub MOST_PRICE : ℕ
 MOST_PRICE = 4194304
+
+-- what the prices of a week come to at most: those of 16 units
+abbrev pub MOST_WEEK_PRICES : ℕ
+MOST_WEEK_PRICES = 67108864
+
+-- what a unit costs OFF over the season at most: 52 weeks at 250,000
+abbrev pub MOST_OFF : ℕ
+MOST_OFF = 13000000
+
+-- how many amounts there are that a word holds
+abbrev pub AMOUNTS : ℕ
+AMOUNTS = 4294967296
 
 -- no price is higher
 pub record Prices (xs : List ℕ) : Type 0 where
@@ -94,7 +112,7 @@ pub record Partners (p : Problem) (n : ℕ) (xs : List ℕ) : Type 0 where
 -- the first n units' OFF costs
 pub record Offs (p : Problem) (n : ℕ) (xs : List ℕ) : Type 0 where
   pub each : (i : ℕ) → i < n → offIn xs i ≡ offWeeks p i
-  pub small : (i : ℕ) → i < n → offIn xs i ≤ 13000000
+  pub small : (i : ℕ) → i < n → offIn xs i ≤ MOST_OFF
 
 -- prices in their range, and the partners and OFF costs of all units
 pub record Priced (p : Problem) (xs : List ℕ) : Type 0 where

@@ -4,10 +4,11 @@
 use instance::Euro;
 use model::Layout;
 ghost use mathlib.Core.Path.{_≡_};
-ghost use Prim.Native.Nat.{_<_, _≤_};
+ghost use Prim.Native.Nat.{_+_, _*_, _<_, _≤_};
+ghost use Rattle.sums.specs.Sum.{sumTo};
 ghost use Rattle.model.specs.Words.{problemOf};
 ghost use Rattle.instance.specs.Filed.{Filed};
-ghost use Rattle.tables.specs.Tables.{MOST_PRICE, priceIn, partnersIn, offIn, excessIn, rootIn, totalIn, Prices, First};
+ghost use Rattle.tables.specs.Tables.{MOST_PRICE, AMOUNTS, priceIn, partnersIn, offIn, excessIn, rootIn, totalIn, unitTotal, Prices, First};
 
 // The words of the table.
 pub const TABLES: usize = 1941;
@@ -21,12 +22,12 @@ pub const START_COSTS: usize = 864;
 pub const ROOT_VALUES: usize = 1888;
 
 pub const TOTAL: usize = 1940;
-// The highest price.
+// The highest price (D74).
 pub const MOST_PRICE: u64 = 4194304;
 
 // A word as an amount.
 pub fn amount(word: u32) -> Euro
-    ensures { λ r. ⌜ (r .0 ≡ word) × (r .0 < 4294967296) ⌝ }
+    ensures { λ r. ⌜ (r .0 ≡ word) × (r .0 < AMOUNTS) ⌝ }
 {
     Euro(word as u64)
 }
@@ -50,7 +51,7 @@ pub fn partners(tables: &[u32; TABLES], i: usize) -> u32
 // What unit i costs OFF in all weeks.
 pub fn off_cost(tables: &[u32; TABLES], i: usize) -> Euro
     requires { ⌜ i < 16 ⌝ }
-    ensures { λ r. ⌜ (r .0 ≡ offIn (now (tables .entry)) i) × (r .0 < 4294967296) ⌝ }
+    ensures { λ r. ⌜ (r .0 ≡ offIn (now (tables .entry)) i) × (r .0 < AMOUNTS) ⌝ }
 {
     amount(tables[OFFS + i])
 }
@@ -58,7 +59,7 @@ pub fn off_cost(tables: &[u32; TABLES], i: usize) -> Euro
 // What the overhaul of unit i costs from a start above its least; the least itself for start 0.
 pub fn excess(tables: &[u32; TABLES], i: usize, start: usize) -> Euro
     requires { ⌜ (i < 16) × (start < 64) ⌝ }
-    ensures { λ r. ⌜ (r .0 ≡ excessIn (now (tables .entry)) i start) × (r .0 < 4294967296) ⌝ }
+    ensures { λ r. ⌜ (r .0 ≡ excessIn (now (tables .entry)) i start) × (r .0 < AMOUNTS) ⌝ }
 {
     amount(tables[START_COSTS + i * 64 + start])
 }
@@ -66,16 +67,42 @@ pub fn excess(tables: &[u32; TABLES], i: usize, start: usize) -> Euro
 // What week t is worth with nobody out.
 pub fn root_value(tables: &[u32; TABLES], t: usize) -> Euro
     requires { ⌜ t < 52 ⌝ }
-    ensures { λ r. ⌜ (r .0 ≡ rootIn (now (tables .entry)) t) × (r .0 < 4294967296) ⌝ }
+    ensures { λ r. ⌜ (r .0 ≡ rootIn (now (tables .entry)) t) × (r .0 < AMOUNTS) ⌝ }
 {
     amount(tables[ROOT_VALUES + t])
 }
 
 // All OFF costs and all prices.
 pub fn total(tables: &[u32; TABLES]) -> Euro
-    ensures { λ r. ⌜ (r .0 ≡ totalIn (now (tables .entry))) × (r .0 < 4294967296) ⌝ }
+    ensures { λ r. ⌜ (r .0 ≡ totalIn (now (tables .entry))) × (r .0 < AMOUNTS) ⌝ }
 {
     amount(tables[TOTAL])
+}
+
+// The OFF cost of unit i in all weeks, and its prices.
+fn unit_total(l: Layout, tables: &[u32; TABLES], i: usize) -> Euro
+    requires { ⌜ (l .weeks ≤ 52) × (i < 16) × Prices (now tables) ⌝ }
+    ensures { λ r. ⌜ (r .0 ≡ unitTotal (now (tables .entry)) (l .weeks) i) × (r .0 ≤ AMOUNTS + 52 * MOST_PRICE) ⌝ }
+{
+    let weeks = l.weeks;
+    let mut sum = off_cost(tables, i);
+    for t in 0..weeks {
+        sum = sum.plus(price(tables, t, i));
+    }
+    sum
+}
+
+// All OFF costs and all prices, added up.
+pub fn sum_total(l: Layout, tables: &[u32; TABLES]) -> Euro
+    requires { ⌜ (l .weeks ≤ 52) × (l .units ≤ 16) × Prices (now tables) ⌝ }
+    ensures { λ r. ⌜ (r .0 ≡ sumTo (l .units) (unitTotal (now (tables .entry)) (l .weeks))) × (r .0 ≤ 16 * (AMOUNTS + 52 * MOST_PRICE)) ⌝ }
+{
+    let n = l.units;
+    let mut sum = Euro(0);
+    for i in 0..n {
+        sum = sum.plus(unit_total(l, tables, i));
+    }
+    sum
 }
 
 // The table of a file before prices are found: each unit's partners and OFF cost, and 0 elsewhere.

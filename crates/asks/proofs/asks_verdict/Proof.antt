@@ -14,12 +14,9 @@ returns-2 c = search asks-odd
 returns-3 : tie.Need-returns-3
 returns-3 c = search asks-many
 
-each-verdict-requires : tie.Need-each-verdict-requires
-each-verdict-requires c κs = search needs
-
 returns-4 : tie.Need-returns-4
 returns-4 c = search asks-each
 
 pub asks-verdict-spec : {M : Type 1} → statement M
 asks-verdict-spec =
-    tie.close (tie.spec returns returns-2 returns-3 each-verdict-requires returns-4)
+    tie.close (tie.spec returns returns-2 returns-3 (λ c κs. search needs) returns-4)

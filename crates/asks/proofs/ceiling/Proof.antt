@@ -5,17 +5,8 @@ use borrow.Author.Needs.{needs}
 use Rattle.asks.proofs.ceiling.Statement.{statement}
 use Rattle.asks.proofs.ceiling.Tie as tie
 
-mul-value-at : tie.Need-mul-value-at
-mul-value-at c = search needs
-
-value-at-requires : tie.Need-value-at-requires
-value-at-requires c κs = search needs
-
-cast-result : tie.Need-cast-result
-cast-result c = search needs
-
 returns : tie.Need-returns
 returns c = (search ceiling-is, search needs)
 
 pub ceiling-spec : {M : Type 1} → statement M
-ceiling-spec = tie.close (tie.spec mul-value-at value-at-requires cast-result returns)
+ceiling-spec = tie.close (tie.spec (λ c. search needs) (λ c κs. search needs) (λ c. search needs) returns)

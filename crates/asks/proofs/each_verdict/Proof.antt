@@ -17,17 +17,8 @@ abbrev μ-loop : tie.MeasureT-loop
 loop-holds : tie.Need-loop-holds Inv-loop μ-loop
 loop-holds c = search onward-start
 
-ask-fault-requires : tie.Need-ask-fault-requires Inv-loop μ-loop
-ask-fault-requires c κs = search needs
-
 returns : tie.Need-returns Inv-loop μ-loop
 returns c = search onward-fault
-
-add-q : tie.Need-add-q Inv-loop μ-loop
-add-q c = search needs
-
-loop-less : tie.Need-loop-less Inv-loop μ-loop
-loop-less c = search needs
 
 loop-again : tie.Need-loop-again Inv-loop μ-loop
 loop-again c = search onward-next
@@ -42,9 +33,9 @@ each-verdict-spec =
     Inv-loop
     μ-loop
     loop-holds
-    ask-fault-requires
+    (λ c κs. search needs)
     returns
-    add-q
-    loop-less
+    (λ c. search needs)
+    (λ c. search needs)
     loop-again
     returns-2)

@@ -11,17 +11,11 @@ returns c = search table-short
 returns-2 : tie.Need-returns-2
 returns-2 c = search table-long
 
-block-size-requires : tie.Need-block-size-requires
-block-size-requires c κs = search needs
-
 mul-if3 : tie.Need-mul-if3
 mul-if3 c = search blocks-fit
 
 returns-3 : tie.Need-returns-3
 returns-3 c = search answers-short
-
-scratch-wanted-requires : tie.Need-scratch-wanted-requires
-scratch-wanted-requires c κs = search needs
 
 returns-4 : tie.Need-returns-4
 returns-4 c = search scratch-short
@@ -35,9 +29,9 @@ memory-verdict-spec =
     (tie.spec
     returns
     returns-2
-    block-size-requires
+    (λ c κs. search needs)
     mul-if3
     returns-3
-    scratch-wanted-requires
+    (λ c κs. search needs)
     returns-4
     returns-5)

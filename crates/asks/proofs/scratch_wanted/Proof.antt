@@ -5,11 +5,8 @@ use borrow.Author.Needs.{needs}
 use Rattle.asks.proofs.scratch_wanted.Statement.{statement}
 use Rattle.asks.proofs.scratch_wanted.Tie as tie
 
-shl-result : tie.Need-shl-result
-shl-result c = search needs
-
 returns : tie.Need-returns
 returns c = search scratch-words
 
 pub scratch-wanted-spec : {M : Type 1} → statement M
-scratch-wanted-spec = tie.close (tie.spec shl-result returns)
+scratch-wanted-spec = tie.close (tie.spec (λ c. search needs) returns)

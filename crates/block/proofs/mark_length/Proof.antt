@@ -5,12 +5,6 @@ use borrow.Author.Needs.{needs}
 use Rattle.block.proofs.mark_length.Statement.{statement}
 use Rattle.block.proofs.mark_length.Tie as tie
 
-enum-told : tie.Need-enum-told
-enum-told c = search needs
-
-enum-known-w : tie.Need-enum-known-w
-enum-known-w c = search needs
-
 returns : tie.Need-returns
 returns c = search mark-none
 
@@ -18,4 +12,4 @@ returns-2 : tie.Need-returns-2
 returns-2 c = search mark-some
 
 pub mark-length-spec : {M : Type 1} → statement M
-mark-length-spec = tie.close (tie.spec enum-told enum-known-w returns returns-2)
+mark-length-spec = tie.close (tie.spec (λ c. search needs) (λ c. search needs) returns returns-2)

@@ -19,35 +19,11 @@ Inv-loop answers₀ at l reply size q₀ answers q = (q ≤ size) × ((at + size
 abbrev μ-loop : tie.MeasureT-loop
 μ-loop answers₀ at l reply size q₀ answers q = size - q
 
-block-size-requires : tie.Need-block-size-requires Inv-loop μ-loop
-block-size-requires c κs = search needs
-
 loop-holds : tie.Need-loop-holds Inv-loop μ-loop
 loop-holds c = (search needs, (search needs, (refl, search splice-start)))
 
-word-requires : tie.Need-word-requires Inv-loop μ-loop
-word-requires c κs = search needs
-
-add-answers : tie.Need-add-answers Inv-loop μ-loop
-add-answers c = search needs
-
-mul-answers : tie.Need-mul-answers Inv-loop μ-loop
-mul-answers c = search needs
-
-slice-write-answers : tie.Need-slice-write-answers Inv-loop μ-loop
-slice-write-answers c = search needs
-
-add-q : tie.Need-add-q Inv-loop μ-loop
-add-q c = search needs
-
-loop-less : tie.Need-loop-less Inv-loop μ-loop
-loop-less c = search needs
-
 loop-again : tie.Need-loop-again Inv-loop μ-loop
 loop-again c = (search needs, (search needs, (search (needs, length-set), search splice-next)))
-
-same-length : tie.Need-same-length Inv-loop μ-loop
-same-length c = search needs
 
 returns : tie.Need-returns Inv-loop μ-loop
 returns c = search block-ended
@@ -58,14 +34,14 @@ put-at-spec =
     (tie.spec
     Inv-loop
     μ-loop
-    block-size-requires
+    (λ c κs. search needs)
     loop-holds
-    word-requires
-    add-answers
-    mul-answers
-    slice-write-answers
-    add-q
-    loop-less
+    (λ c κs. search needs)
+    (λ c. search needs)
+    (λ c. search needs)
+    (λ c. search needs)
+    (λ c. search needs)
+    (λ c. search needs)
     loop-again
-    same-length
+    (λ c. search needs)
     returns)

@@ -5,14 +5,8 @@ use borrow.Author.Needs.{needs}
 use Rattle.block.proofs.status.Statement.{statement}
 use Rattle.block.proofs.status.Tie as tie
 
-enum-told : tie.Need-enum-told
-enum-told c = search needs
-
 returns : tie.Need-returns
 returns c = search status-plan
-
-enum-told-2 : tie.Need-enum-told-2
-enum-told-2 c = search needs
 
 returns-2 : tie.Need-returns-2
 returns-2 c = search status-spent
@@ -24,4 +18,4 @@ returns-4 : tie.Need-returns-4
 returns-4 c = search status-mark
 
 pub status-spec : {M : Type 1} → statement M
-status-spec = tie.close (tie.spec enum-told returns enum-told-2 returns-2 returns-3 returns-4)
+status-spec = tie.close (tie.spec (λ c. search needs) returns (λ c. search needs) returns-2 returns-3 returns-4)

@@ -1,8 +1,8 @@
 -- `bound::all_rows` meets its contract: the rows hold the units placed so far.
 -- Assumes nothing.
 use Prim.Native.Nat.{_-_, _≤_}
+use Rattle.sums.specs.Table.{entry}
 use Rattle.model.specs.Words.{problemOf}
-use Rattle.blame.specs.Closed.{startIn}
 use Rattle.blame.specs.Placed.{placed}
 use Rattle.bound.specs.Rows.{Rows}
 use Rattle.bound.proofs.RowLaws.{rows-none}
@@ -12,25 +12,16 @@ use Rattle.bound.proofs.all_rows.Statement.{statement}
 use Rattle.bound.proofs.all_rows.Tie as tie
 
 abbrev Inv-loop : tie.InvT-loop
-Inv-loop words l starts units rows₀ j₀ rows j = (j ≤ units) × Rows (problemOf words) (placed (problemOf words) (startIn starts) j) rows
+Inv-loop words l starts units rows₀ j₀ rows j = (j ≤ units) × Rows (problemOf words) (placed (problemOf words) (entry starts) j) rows
 
 abbrev μ-loop : tie.MeasureT-loop
 μ-loop words l starts units rows₀ j₀ rows j = units - j
-
-no-rows-requires : tie.Need-no-rows-requires Inv-loop μ-loop
-no-rows-requires c κs = search needs
 
 loop-holds : tie.Need-loop-holds Inv-loop μ-loop
 loop-holds c = (search needs, search rows-none)
 
 placed-rows-requires : tie.Need-placed-rows-requires Inv-loop μ-loop
 placed-rows-requires c κs = (search needs, search due-of)
-
-add-j : tie.Need-add-j Inv-loop μ-loop
-add-j c = search needs
-
-loop-less : tie.Need-loop-less Inv-loop μ-loop
-loop-less c = search needs
 
 loop-again : tie.Need-loop-again Inv-loop μ-loop
 loop-again c = (search needs, search needs)
@@ -44,10 +35,10 @@ all-rows-spec =
     (tie.spec
     Inv-loop
     μ-loop
-    no-rows-requires
+    (λ c κs. search needs)
     loop-holds
     placed-rows-requires
-    add-j
-    loop-less
+    (λ c. search needs)
+    (λ c. search needs)
     loop-again
     returns)

@@ -8,6 +8,7 @@ use Rattle.sums.proofs.LoopLaws.{sum-start}
 use Rattle.model.specs.Words.{problemOf}
 use Rattle.memo.specs.Memo.{Right, Others}
 use Rattle.memo.proofs.EntryLaws.{others-same, others-trans}
+use Rattle.bound.specs.Rows.{MOST_WEEK}
 use Rattle.bound.proofs.LeafLaws.{rowPaid, row-tallies, paid-more, paid-ended}
 use borrow.Author.Needs.{needs}
 use Rattle.bound.proofs.cost.Statement.{statement}
@@ -15,7 +16,7 @@ use Rattle.bound.proofs.cost.Tie as tie
 
 abbrev Inv-loop : tie.InvT-loop
 Inv-loop words l rows memo₀ weeks sum₀ t₀ memo sum t = (t ≤ weeks) × (weeks ≤ 52) × (length memo ≡ length memo₀) × Right (problemOf words) memo × Others memo₀ memo
-    × (sum .0 ≤ 272435456 * t) × (sum .0 ≡ sumTo t (rowPaid (problemOf words) rows))
+    × (sum .0 ≤ MOST_WEEK * t) × (sum .0 ≡ sumTo t (rowPaid (problemOf words) rows))
 
 abbrev μ-loop : tie.MeasureT-loop
 μ-loop words l rows memo₀ weeks sum₀ t₀ memo sum t = weeks - t
@@ -23,29 +24,11 @@ abbrev μ-loop : tie.MeasureT-loop
 loop-holds : tie.Need-loop-holds Inv-loop μ-loop
 loop-holds c = (search needs, search needs, refl, search needs, search others-same, search needs, search sum-start)
 
-mul-week-cost : tie.Need-mul-week-cost Inv-loop μ-loop
-mul-week-cost c = search needs
-
-element-copy-out-week-cost : tie.Need-element-copy-out-week-cost Inv-loop μ-loop
-element-copy-out-week-cost c = search needs
-
-week-cost-requires : tie.Need-week-cost-requires Inv-loop μ-loop
-week-cost-requires c κs = (search needs, search needs, search row-tallies, search needs)
-
-plus-requires : tie.Need-plus-requires Inv-loop μ-loop
-plus-requires c κs = search needs
-
-add-t : tie.Need-add-t Inv-loop μ-loop
-add-t c = search needs
-
-loop-less : tie.Need-loop-less Inv-loop μ-loop
-loop-less c = search needs
+tally-cost-requires : tie.Need-tally-cost-requires Inv-loop μ-loop
+tally-cost-requires c κs = (search needs, search needs, search row-tallies, search needs)
 
 loop-again : tie.Need-loop-again Inv-loop μ-loop
 loop-again c = (search needs, search needs, search needs, search needs, search others-trans, search needs, search paid-more)
-
-same-length : tie.Need-same-length Inv-loop μ-loop
-same-length c = search needs
 
 returns : tie.Need-returns Inv-loop μ-loop
 returns c = (search paid-ended, (search needs, search needs))
@@ -57,12 +40,12 @@ cost-spec =
     Inv-loop
     μ-loop
     loop-holds
-    mul-week-cost
-    element-copy-out-week-cost
-    week-cost-requires
-    plus-requires
-    add-t
-    loop-less
+    (λ c. search needs)
+    (λ c. search needs)
+    tally-cost-requires
+    (λ c κs. search needs)
+    (λ c. search needs)
+    (λ c. search needs)
     loop-again
-    same-length
+    (λ c. search needs)
     returns)

@@ -17,9 +17,6 @@ abbrev μ-loop : tie.MeasureT-loop
 array-read-first : tie.Need-array-read-first Inv-loop μ-loop
 array-read-first c = search (needs, due-few)
 
-cast-first : tie.Need-cast-first Inv-loop μ-loop
-cast-first c = search needs
-
 sub-first : tie.Need-sub-first Inv-loop μ-loop
 sub-first c = search (needs, due-some)
 
@@ -29,35 +26,8 @@ duration-requires c κs = search (needs, due-unit)
 loop-holds : tie.Need-loop-holds Inv-loop μ-loop
 loop-holds c = (search needs, search due-ends, search rows-start)
 
-add-word-with : tie.Need-add-word-with Inv-loop μ-loop
-add-word-with c = search needs
-
-add-word-with-2 : tie.Need-add-word-with-2 Inv-loop μ-loop
-add-word-with-2 c = search needs
-
-mul-word-with : tie.Need-mul-word-with Inv-loop μ-loop
-mul-word-with c = search needs
-
-element-copy-out-word-with : tie.Need-element-copy-out-word-with Inv-loop μ-loop
-element-copy-out-word-with c = search needs
-
 word-with-requires : tie.Need-word-with-requires Inv-loop μ-loop
 word-with-requires c κs = (search needs, ((search needs, search due-unit), search due-tally))
-
-add-next : tie.Need-add-next Inv-loop μ-loop
-add-next c = search needs
-
-mul-next : tie.Need-mul-next Inv-loop μ-loop
-mul-next c = search needs
-
-array-write-next : tie.Need-array-write-next Inv-loop μ-loop
-array-write-next c = search needs
-
-add-k : tie.Need-add-k Inv-loop μ-loop
-add-k c = search needs
-
-loop-less : tie.Need-loop-less Inv-loop μ-loop
-loop-less c = search needs
 
 loop-again : tie.Need-loop-again Inv-loop μ-loop
 loop-again c = (search needs, search needs, search rows-next)
@@ -72,19 +42,19 @@ placed-rows-spec =
     Inv-loop
     μ-loop
     array-read-first
-    cast-first
+    (λ c. search needs)
     sub-first
     duration-requires
     loop-holds
-    add-word-with
-    add-word-with-2
-    mul-word-with
-    element-copy-out-word-with
+    (λ c. search needs)
+    (λ c. search needs)
+    (λ c. search needs)
+    (λ c. search needs)
     word-with-requires
-    add-next
-    mul-next
-    array-write-next
-    add-k
-    loop-less
+    (λ c. search needs)
+    (λ c. search needs)
+    (λ c. search needs)
+    (λ c. search needs)
+    (λ c. search needs)
     loop-again
     returns)

@@ -13,29 +13,14 @@ Inv-loop words tables weeks wanted sum₀ t₀ sum t = (t ≤ weeks) × (weeks �
 abbrev μ-loop : tie.MeasureT-loop
 μ-loop words tables weeks wanted sum₀ t₀ sum t = weeks - t
 
-wanted-requires : tie.Need-wanted-requires Inv-loop μ-loop
-wanted-requires c κs = search needs
-
-least-sum-requires : tie.Need-least-sum-requires Inv-loop μ-loop
-least-sum-requires c κs = search needs
-
 loop-holds : tie.Need-loop-holds Inv-loop μ-loop
 loop-holds c = (search needs, search needs, search root-start)
-
-root-value-requires : tie.Need-root-value-requires Inv-loop μ-loop
-root-value-requires c κs = search needs
 
 returns : tie.Need-returns Inv-loop μ-loop
 returns c = search root-shut
 
 plus-requires : tie.Need-plus-requires Inv-loop μ-loop
 plus-requires c κs = search root-fits
-
-add-t : tie.Need-add-t Inv-loop μ-loop
-add-t c = search needs
-
-loop-less : tie.Need-loop-less Inv-loop μ-loop
-loop-less c = search needs
 
 loop-again : tie.Need-loop-again Inv-loop μ-loop
 loop-again c = (search needs, search needs, search root-next)
@@ -52,14 +37,14 @@ root-spec =
     (tie.spec
     Inv-loop
     μ-loop
-    wanted-requires
-    least-sum-requires
+    (λ c κs. search needs)
+    (λ c κs. search needs)
     loop-holds
-    root-value-requires
+    (λ c κs. search needs)
     returns
     plus-requires
-    add-t
-    loop-less
+    (λ c. search needs)
+    (λ c. search needs)
     loop-again
     returns-2
     returns-3)

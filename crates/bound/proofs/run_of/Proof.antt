@@ -5,18 +5,6 @@ use borrow.Author.Needs.{needs}
 use Rattle.bound.proofs.run_of.Statement.{statement}
 use Rattle.bound.proofs.run_of.Tie as tie
 
-cast-cheapest : tie.Need-cast-cheapest
-cast-cheapest c = search needs
-
-cheapest-requires : tie.Need-cheapest-requires
-cheapest-requires c κs = search needs
-
-enum-told : tie.Need-enum-told
-enum-told c = search needs
-
-enum-known-found : tie.Need-enum-known-found
-enum-known-found c = search needs
-
 returns : tie.Need-returns
 returns c = search run-none
 
@@ -26,4 +14,4 @@ returns-2 c = search run-found
 pub run-of-spec : {M : Type 1} → statement M
 run-of-spec =
     tie.close
-    (tie.spec cast-cheapest cheapest-requires enum-told enum-known-found returns returns-2)
+    (tie.spec (λ c. search needs) (λ c κs. search needs) (λ c. search needs) (λ c. search needs) returns returns-2)

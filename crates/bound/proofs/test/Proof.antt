@@ -5,35 +5,23 @@ use borrow.Author.Needs.{needs}
 use Rattle.bound.proofs.test.Statement.{statement}
 use Rattle.bound.proofs.test.Tie as tie
 
-wanted-requires : tie.Need-wanted-requires
-wanted-requires c κs = search needs
-
 with-start-requires : tie.Need-with-start-requires
 with-start-requires c κs = search start-bounded
 
 test-weeks-requires : tie.Need-test-weeks-requires
 test-weeks-requires c κs = search start-due
 
-weighed-requires : tie.Need-weighed-requires
-weighed-requires c κs = search weighing
-
-same-length : tie.Need-same-length
-same-length c = search needs
-
-same-length-2 : tie.Need-same-length-2
-same-length-2 c = search needs
-
-returns : tie.Need-returns
-returns c = search needs
+weigh-requires : tie.Need-weigh-requires
+weigh-requires c κs = search weighing
 
 pub test-spec : {M : Type 1} → statement M
 test-spec =
     tie.close
     (tie.spec
-    wanted-requires
+    (λ c κs. search needs)
     with-start-requires
     test-weeks-requires
-    weighed-requires
-    same-length
-    same-length-2
-    returns)
+    weigh-requires
+    (λ c. search needs)
+    (λ c. search needs)
+    (λ c. search needs))

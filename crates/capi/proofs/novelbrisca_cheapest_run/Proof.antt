@@ -5,15 +5,9 @@ use borrow.Author.Needs.{needs}
 use Rattle.capi.proofs.novelbrisca_cheapest_run.Statement.{statement}
 use Rattle.capi.proofs.novelbrisca_cheapest_run.Tie as tie
 
-cheapest-run-requires : tie.Need-cheapest-run-requires
-cheapest-run-requires c κs = search needs
-
-quote-code-requires : tie.Need-quote-code-requires
-quote-code-requires c κs = search needs
-
 returns : tie.Need-returns
 returns c = search codes
 
 pub novelbrisca-cheapest-run-spec : {M : Type 1} → statement M
 novelbrisca-cheapest-run-spec =
-    tie.close (tie.spec cheapest-run-requires quote-code-requires returns)
+    tie.close (tie.spec (λ c κs. search needs) (λ c κs. search needs) returns)

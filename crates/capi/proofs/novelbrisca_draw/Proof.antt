@@ -6,18 +6,9 @@ use borrow.Author.Needs.{needs}
 use Rattle.capi.proofs.novelbrisca_draw.Statement.{statement}
 use Rattle.capi.proofs.novelbrisca_draw.Tie as tie
 
-draw-requires : tie.Need-draw-requires
-draw-requires c κs = search needs
-
-refusal-number-requires : tie.Need-refusal-number-requires
-refusal-number-requires c κs = search needs
-
-same-length : tie.Need-same-length
-same-length c = search needs
-
 returns : tie.Need-returns
 returns c = (search codes, search memory)
 
 pub novelbrisca-draw-spec : {M : Type 1} → statement M
 novelbrisca-draw-spec =
-    tie.close (tie.spec draw-requires refusal-number-requires same-length returns)
+    tie.close (tie.spec (λ c κs. search needs) (λ c κs. search needs) (λ c. search needs) returns)

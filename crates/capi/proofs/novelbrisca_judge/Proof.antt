@@ -5,14 +5,8 @@ use borrow.Author.Needs.{needs}
 use Rattle.capi.proofs.novelbrisca_judge.Statement.{statement}
 use Rattle.capi.proofs.novelbrisca_judge.Tie as tie
 
-judge-requires : tie.Need-judge-requires
-judge-requires c κs = search needs
-
-judgement-code-requires : tie.Need-judgement-code-requires
-judgement-code-requires c κs = search needs
-
 returns : tie.Need-returns
 returns c = search codes
 
 pub novelbrisca-judge-spec : {M : Type 1} → statement M
-novelbrisca-judge-spec = tie.close (tie.spec judge-requires judgement-code-requires returns)
+novelbrisca-judge-spec = tie.close (tie.spec (λ c κs. search needs) (λ c κs. search needs) returns)

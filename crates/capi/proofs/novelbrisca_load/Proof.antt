@@ -6,18 +6,9 @@ use borrow.Author.Needs.{needs}
 use Rattle.capi.proofs.novelbrisca_load.Statement.{statement}
 use Rattle.capi.proofs.novelbrisca_load.Tie as tie
 
-load-requires : tie.Need-load-requires
-load-requires c κs = search needs
-
-denial-number-requires : tie.Need-denial-number-requires
-denial-number-requires c κs = search needs
-
-same-length : tie.Need-same-length
-same-length c = search needs
-
 returns : tie.Need-returns
 returns c = (search codes, search memory)
 
 pub novelbrisca-load-spec : {M : Type 1} → statement M
 novelbrisca-load-spec =
-    tie.close (tie.spec load-requires denial-number-requires same-length returns)
+    tie.close (tie.spec (λ c κs. search needs) (λ c κs. search needs) (λ c. search needs) returns)

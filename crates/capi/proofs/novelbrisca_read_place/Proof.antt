@@ -5,14 +5,8 @@ use borrow.Author.Needs.{needs}
 use Rattle.capi.proofs.novelbrisca_read_place.Statement.{statement}
 use Rattle.capi.proofs.novelbrisca_read_place.Tie as tie
 
-read-requires : tie.Need-read-requires
-read-requires c κs = search needs
-
-refusal-place-requires : tie.Need-refusal-place-requires
-refusal-place-requires c κs = search needs
-
 returns : tie.Need-returns
 returns c = search codes
 
 pub novelbrisca-read-place-spec : {M : Type 1} → statement M
-novelbrisca-read-place-spec = tie.close (tie.spec read-requires refusal-place-requires returns)
+novelbrisca-read-place-spec = tie.close (tie.spec (λ c κs. search needs) (λ c κs. search needs) returns)

@@ -5,15 +5,9 @@ use borrow.Author.Needs.{needs}
 use Rattle.capi.proofs.novelbrisca_run_place.Statement.{statement}
 use Rattle.capi.proofs.novelbrisca_run_place.Tie as tie
 
-run-verdict-requires : tie.Need-run-verdict-requires
-run-verdict-requires c κs = search needs
-
-refusal-place-requires : tie.Need-refusal-place-requires
-refusal-place-requires c κs = search needs
-
 returns : tie.Need-returns
 returns c = search codes
 
 pub novelbrisca-run-place-spec : {M : Type 1} → statement M
 novelbrisca-run-place-spec =
-    tie.close (tie.spec run-verdict-requires refusal-place-requires returns)
+    tie.close (tie.spec (λ c κs. search needs) (λ c κs. search needs) returns)

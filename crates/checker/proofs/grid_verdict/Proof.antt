@@ -5,17 +5,11 @@ use borrow.Author.Needs.{needs}
 use Rattle.checker.proofs.grid_verdict.Statement.{statement}
 use Rattle.checker.proofs.grid_verdict.Tie as tie
 
-mul-if1 : tie.Need-mul-if1
-mul-if1 c = search needs
-
 returns : tie.Need-returns
 returns c = search length-fault
-
-cells-verdict-requires : tie.Need-cells-verdict-requires
-cells-verdict-requires c κs = search needs
 
 returns-2 : tie.Need-returns-2
 returns-2 c = search length-right
 
 pub grid-verdict-spec : {M : Type 1} → statement M
-grid-verdict-spec = tie.close (tie.spec mul-if1 returns cells-verdict-requires returns-2)
+grid-verdict-spec = tie.close (tie.spec (λ c. search needs) returns (λ c κs. search needs) returns-2)

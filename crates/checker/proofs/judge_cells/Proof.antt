@@ -5,17 +5,11 @@ use borrow.Author.Needs.{needs}
 use Rattle.checker.proofs.judge_cells.Statement.{statement}
 use Rattle.checker.proofs.judge_cells.Tie as tie
 
-broken-requires : tie.Need-broken-requires
-broken-requires c κs = search needs
-
 returns : tie.Need-returns
 returns c = search judged-breaks
-
-grid-cost-requires : tie.Need-grid-cost-requires
-grid-cost-requires c κs = search needs
 
 returns-2 : tie.Need-returns-2
 returns-2 c = search judged-sound
 
 pub judge-cells-spec : {M : Type 1} → statement M
-judge-cells-spec = tie.close (tie.spec broken-requires returns grid-cost-requires returns-2)
+judge-cells-spec = tie.close (tie.spec (λ c κs. search needs) returns (λ c κs. search needs) returns-2)

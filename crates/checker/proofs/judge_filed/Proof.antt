@@ -6,17 +6,8 @@ use borrow.Author.Needs.{needs}
 use Rattle.checker.proofs.judge_filed.Statement.{statement}
 use Rattle.checker.proofs.judge_filed.Tie as tie
 
-layout-of-requires : tie.Need-layout-of-requires
-layout-of-requires c κs = search needs
-
 grid-verdict-requires : tie.Need-grid-verdict-requires
 grid-verdict-requires c κs = search filed
-
-enum-known-v : tie.Need-enum-known-v
-enum-known-v c = search needs
-
-enum-told : tie.Need-enum-told
-enum-told c = search needs
 
 judge-cells-requires : tie.Need-judge-cells-requires
 judge-cells-requires c κs = search stated
@@ -31,10 +22,10 @@ pub judge-filed-spec : {M : Type 1} → statement M
 judge-filed-spec =
     tie.close
     (tie.spec
-    layout-of-requires
+    (λ c κs. search needs)
     grid-verdict-requires
-    enum-known-v
-    enum-told
+    (λ c. search needs)
+    (λ c. search needs)
     judge-cells-requires
     returns
     returns-2)

@@ -8,20 +8,8 @@ use Rattle.checker.proofs.judge_input.Tie as tie
 returns : tie.Need-returns
 returns c = search input-long
 
-file-end-requires : tie.Need-file-end-requires
-file-end-requires c κs = search needs
-
 slice-aggregate-judge-bytes : tie.Need-slice-aggregate-judge-bytes
 slice-aggregate-judge-bytes c = search file-length
-
-sub-judge-bytes : tie.Need-sub-judge-bytes
-sub-judge-bytes c = search needs
-
-part-judge-bytes-start : tie.Need-part-judge-bytes-start
-part-judge-bytes-start c = search needs
-
-part-judge-bytes-end : tie.Need-part-judge-bytes-end
-part-judge-bytes-end c = search needs
 
 judge-bytes-requires : tie.Need-judge-bytes-requires
 judge-bytes-requires c κs = search file-short
@@ -34,10 +22,10 @@ judge-input-spec =
     tie.close
     (tie.spec
     returns
-    file-end-requires
+    (λ c κs. search needs)
     slice-aggregate-judge-bytes
-    sub-judge-bytes
-    part-judge-bytes-start
-    part-judge-bytes-end
+    (λ c. search needs)
+    (λ c. search needs)
+    (λ c. search needs)
     judge-bytes-requires
     returns-2)

@@ -6,12 +6,6 @@ use borrow.Author.Needs.{needs}
 use Rattle.checker.proofs.row_for.Statement.{statement}
 use Rattle.checker.proofs.row_for.Tie as tie
 
-maint-table-requires : tie.Need-maint-table-requires
-maint-table-requires c κs = search needs
-
-running-table-requires : tie.Need-running-table-requires
-running-table-requires c κs = search needs
-
 cost-row-requires : tie.Need-cost-row-requires
 cost-row-requires c κs = ((search needs, search needs), (search maints-rows, search runnings-rows))
 
@@ -20,4 +14,4 @@ returns c = search row-named
 
 pub row-for-spec : {M : Type 1} → statement M
 row-for-spec =
-    tie.close (tie.spec maint-table-requires running-table-requires cost-row-requires returns)
+    tie.close (tie.spec (λ c κs. search needs) (λ c κs. search needs) cost-row-requires returns)

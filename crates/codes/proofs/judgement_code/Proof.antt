@@ -5,27 +5,6 @@ use borrow.Author.Needs.{needs}
 use Rattle.codes.proofs.judgement_code.Statement.{statement}
 use Rattle.codes.proofs.judgement_code.Tie as tie
 
-enum-known-j : tie.Need-enum-known-j
-enum-known-j c = search needs
-
-enum-known-j-2 : tie.Need-enum-known-j-2
-enum-known-j-2 c = search needs
-
-cast-result : tie.Need-cast-result
-cast-result c = search needs
-
-add-result : tie.Need-add-result
-add-result c = search needs
-
-enum-known-j-3 : tie.Need-enum-known-j-3
-enum-known-j-3 c = search needs
-
-cast-result-2 : tie.Need-cast-result-2
-cast-result-2 c = search needs
-
-add-result-2 : tie.Need-add-result-2
-add-result-2 c = search needs
-
 returns : tie.Need-returns
 returns c = search judgements
 
@@ -39,13 +18,13 @@ pub judgement-code-spec : {M : Type 1} → statement M
 judgement-code-spec =
     tie.close
     (tie.spec
-    enum-known-j
-    enum-known-j-2
-    cast-result
-    add-result
-    enum-known-j-3
-    cast-result-2
-    add-result-2
+    (λ c. search needs)
+    (λ c. search needs)
+    (λ c. search needs)
+    (λ c. search needs)
+    (λ c. search needs)
+    (λ c. search needs)
+    (λ c. search needs)
     returns
     returns-2
     returns-3)

@@ -5,15 +5,6 @@ use borrow.Author.Needs.{needs}
 use Rattle.codes.proofs.judgement_place.Statement.{statement}
 use Rattle.codes.proofs.judgement_place.Tie as tie
 
-enum-known-j : tie.Need-enum-known-j
-enum-known-j c = search needs
-
-enum-known-j-2 : tie.Need-enum-known-j-2
-enum-known-j-2 c = search needs
-
-enum-known-j-3 : tie.Need-enum-known-j-3
-enum-known-j-3 c = search needs
-
 returns : tie.Need-returns
 returns c = search judgements
 
@@ -25,4 +16,4 @@ returns-3 c = search judgements
 
 pub judgement-place-spec : {M : Type 1} → statement M
 judgement-place-spec =
-    tie.close (tie.spec enum-known-j enum-known-j-2 enum-known-j-3 returns returns-2 returns-3)
+    tie.close (tie.spec (λ c. search needs) (λ c. search needs) (λ c. search needs) returns returns-2 returns-3)

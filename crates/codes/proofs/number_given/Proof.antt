@@ -5,12 +5,6 @@ use borrow.Author.Needs.{needs}
 use Rattle.codes.proofs.number_given.Statement.{statement}
 use Rattle.codes.proofs.number_given.Tie as tie
 
-enum-known-reply : tie.Need-enum-known-reply
-enum-known-reply c = search needs
-
-enum-known-reply-2 : tie.Need-enum-known-reply-2
-enum-known-reply-2 c = search needs
-
 returns : tie.Need-returns
 returns c = search replies
 
@@ -18,4 +12,4 @@ returns-2 : tie.Need-returns-2
 returns-2 c = search replies
 
 pub number-given-spec : {M : Type 1} → statement M
-number-given-spec = tie.close (tie.spec enum-known-reply enum-known-reply-2 returns returns-2)
+number-given-spec = tie.close (tie.spec (λ c. search needs) (λ c. search needs) returns returns-2)

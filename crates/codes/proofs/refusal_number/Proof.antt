@@ -5,12 +5,6 @@ use borrow.Author.Needs.{needs}
 use Rattle.codes.proofs.refusal_number.Statement.{statement}
 use Rattle.codes.proofs.refusal_number.Tie as tie
 
-enum-told : tie.Need-enum-told
-enum-told c = search needs
-
-enum-known-v : tie.Need-enum-known-v
-enum-known-v c = search needs
-
 returns : tie.Need-returns
 returns c = search refusals
 
@@ -18,4 +12,4 @@ returns-2 : tie.Need-returns-2
 returns-2 c = search refusals
 
 pub refusal-number-spec : {M : Type 1} → statement M
-refusal-number-spec = tie.close (tie.spec enum-told enum-known-v returns returns-2)
+refusal-number-spec = tie.close (tie.spec (λ c. search needs) (λ c. search needs) returns returns-2)

@@ -22,21 +22,6 @@ abbrev μ-loop : tie.MeasureT-loop
 loop-holds : tie.Need-loop-holds Inv-loop μ-loop
 loop-holds c = (search needs, (refl, (search column-start, search (needs, at-most-start))))
 
-capacity-requires : tie.Need-capacity-requires Inv-loop μ-loop
-capacity-requires c κs = search needs
-
-mul-caps : tie.Need-mul-caps Inv-loop μ-loop
-mul-caps c = search needs
-
-array-write-caps : tie.Need-array-write-caps Inv-loop μ-loop
-array-write-caps c = search needs
-
-add-i : tie.Need-add-i Inv-loop μ-loop
-add-i c = search needs
-
-loop-less : tie.Need-loop-less Inv-loop μ-loop
-loop-less c = search needs
-
 loop-again : tie.Need-loop-again Inv-loop μ-loop
 loop-again c = (search needs, (search needs, (search column-next, search at-most-put)))
 
@@ -50,10 +35,10 @@ capacities-spec =
     Inv-loop
     μ-loop
     loop-holds
-    capacity-requires
-    mul-caps
-    array-write-caps
-    add-i
-    loop-less
+    (λ c κs. search needs)
+    (λ c. search needs)
+    (λ c. search needs)
+    (λ c. search needs)
+    (λ c. search needs)
     loop-again
     returns)

@@ -5,14 +5,8 @@ use Rattle.commitment.proofs.ScoreLaws.{found-cost, cost-small}
 use Rattle.commitment.proofs.full_least.Statement.{statement}
 use Rattle.commitment.proofs.full_least.Tie as tie
 
-least-score-requires : tie.Need-least-score-requires
-least-score-requires c κs = search needs
-
-cost-in-requires : tie.Need-cost-in-requires
-cost-in-requires c κs = search needs
-
 returns : tie.Need-returns
 returns c = (search found-cost, search cost-small)
 
 pub full-least-spec : {M : Type 1} → statement M
-full-least-spec = tie.close (tie.spec least-score-requires cost-in-requires returns)
+full-least-spec = tie.close (tie.spec (λ c κs. search needs) (λ c κs. search needs) returns)

@@ -22,15 +22,6 @@ returns c = search thrifty-none
 loop-holds : tie.Need-loop-holds Inv-loop μ-loop
 loop-holds c = (search needs, search needs, search gathered-start)
 
-thrifty-with-requires : tie.Need-thrifty-with-requires Inv-loop μ-loop
-thrifty-with-requires c κs = search needs
-
-add-i : tie.Need-add-i Inv-loop μ-loop
-add-i c = search needs
-
-loop-less : tie.Need-loop-less Inv-loop μ-loop
-loop-less c = search needs
-
 loop-again : tie.Need-loop-again Inv-loop μ-loop
 loop-again c = (search needs, search needs, search gathered-next)
 
@@ -45,8 +36,8 @@ thrifty-run-spec =
     μ-loop
     returns
     loop-holds
-    thrifty-with-requires
-    add-i
-    loop-less
+    (λ c κs. search needs)
+    (λ c. search needs)
+    (λ c. search needs)
     loop-again
     returns-2)

@@ -24,29 +24,11 @@ abbrev μ-loop : tie.MeasureT-loop
 loop-holds : tie.Need-loop-holds Inv-loop μ-loop
 loop-holds c = (search needs, (refl, (search number-start, (search column-start, search (needs, at-most-start)))))
 
-running-cost-requires : tie.Need-running-cost-requires Inv-loop μ-loop
-running-cost-requires c κs = search needs
-
-off-cost-requires : tie.Need-off-cost-requires Inv-loop μ-loop
-off-cost-requires c κs = search needs
-
 weight-requires : tie.Need-weight-requires Inv-loop μ-loop
 weight-requires c κs = (search needs, search number-most)
 
-mul-table : tie.Need-mul-table Inv-loop μ-loop
-mul-table c = search needs
-
-array-write-table : tie.Need-array-write-table Inv-loop μ-loop
-array-write-table c = search needs
-
 next-number-requires : tie.Need-next-number-requires Inv-loop μ-loop
 next-number-requires c κs = search number-most
-
-add-i : tie.Need-add-i Inv-loop μ-loop
-add-i c = search needs
-
-loop-less : tie.Need-loop-less Inv-loop μ-loop
-loop-less c = search needs
 
 loop-again : tie.Need-loop-again Inv-loop μ-loop
 loop-again c = (search needs, (search needs, (search number-next, (search weight-next, search at-most-put))))
@@ -61,13 +43,13 @@ weights-spec =
     Inv-loop
     μ-loop
     loop-holds
-    running-cost-requires
-    off-cost-requires
+    (λ c κs. search needs)
+    (λ c κs. search needs)
     weight-requires
-    mul-table
-    array-write-table
+    (λ c. search needs)
+    (λ c. search needs)
     next-number-requires
-    add-i
-    loop-less
+    (λ c. search needs)
+    (λ c. search needs)
     loop-again
     returns)

@@ -4,7 +4,7 @@ use Prim.Native.Nat.{ℕ, _-_, _<_}
 use borrow.Author.Needs.{needs}
 use borrow.Fn.Kinds.{In}
 use borrow.Fn.PlainCycle.{Measures, is, falls, and}
-use Rattle.cover.proofs.TableLaws.{cut-dear, cut-room, cut-rate, need-small, gain-small, leaf, turn-out, turn-in}
+use Rattle.cover.proofs.TableLaws.{cut-dear, cut-room, cut-rate, need-small, rate-small, gain-small, leaf, turn-out, turn-in}
 use Rattle.cover.proofs.walk.Reads as walk
 use Rattle.cover.proofs.walk.Kinds as walk-kinds
 use Rattle.cover.proofs.+walk.Lts-walk as walk-lts
@@ -15,14 +15,14 @@ use Rattle.cover.proofs.weight_with.Reads as weight-with-reads
 use Rattle.cover.proofs.+walk.{statement}
 use Rattle.cover.proofs.+walk.Tie.{close}
 
-abbrev μ-walk : Measures 4 walk-kinds.ps ℕ
-μ-walk κs a = a .1 .1 .1 .1 .1 .1 .0
+abbrev μ-walk : Measures 3 walk-kinds.ps ℕ
+μ-walk κs a = a .1 .1 .1 .1 .0
 
-abbrev walk-at : ℕ → In 4 walk-kinds.ps
-walk-at t = and 4 walk-kinds.ps (is 4 walk-kinds.ps μ-walk t) walk.Pre
+abbrev walk-at : ℕ → In 3 walk-kinds.ps
+walk-at t = and 3 walk-kinds.ps (is 3 walk-kinds.ps μ-walk t) walk.Pre
 
-abbrev walk-below : ℕ → In 4 walk-kinds.ps
-walk-below t = and 4 walk-kinds.ps (falls 4 walk-kinds.ps _<_ μ-walk t) walk.Pre
+abbrev walk-below : ℕ → In 3 walk-kinds.ps
+walk-below t = and 3 walk-kinds.ps (falls 3 walk-kinds.ps _<_ μ-walk t) walk.Pre
 
 -- what the walk asks of its callees and learns from them, itself among them
 abbrev claims : ℕ → walk-lts.Claims
@@ -41,14 +41,20 @@ walk-element-copy-out-if2 t c = search needs
 walk-returns-2 : (t : ℕ) → walk-lts.Need-returns-2 (claims t) (walk-at t) walk.Post
 walk-returns-2 t c = (search cut-room, search needs)
 
-walk-mul-hopeless : (t : ℕ) → walk-lts.Need-mul-hopeless (claims t) (walk-at t) walk.Post
-walk-mul-hopeless t c = search needs
-
 walk-element-copy-out-hopeless : (t : ℕ) → walk-lts.Need-element-copy-out-hopeless (claims t) (walk-at t) walk.Post
 walk-element-copy-out-hopeless t c = search needs
 
+walk-add-hopeless : (t : ℕ) → walk-lts.Need-add-hopeless (claims t) (walk-at t) walk.Post
+walk-add-hopeless t c = search needs
+
+walk-mul-hopeless : (t : ℕ) → walk-lts.Need-mul-hopeless (claims t) (walk-at t) walk.Post
+walk-mul-hopeless t c = search needs
+
+walk-element-copy-out-hopeless-2 : (t : ℕ) → walk-lts.Need-element-copy-out-hopeless-2 (claims t) (walk-at t) walk.Post
+walk-element-copy-out-hopeless-2 t c = search needs
+
 walk-hopeless-requires : (t : ℕ) → walk-lts.Need-hopeless-requires (claims t) (walk-at t) walk.Post
-walk-hopeless-requires t c κs = ((search needs, search gain-small, search need-small), search needs)
+walk-hopeless-requires t c κs = ((search rate-small, search gain-small, search need-small), search needs)
 
 walk-returns-3 : (t : ℕ) → walk-lts.Need-returns-3 (claims t) (walk-at t) walk.Post
 walk-returns-3 t c = (search cut-rate, search needs)
@@ -68,11 +74,11 @@ walk-has-requires t c κs = search needs
 walk-returns-5 : (t : ℕ) → walk-lts.Need-returns-5 (claims t) (walk-at t) walk.Post
 walk-returns-5 t c = (search turn-out, search needs)
 
-walk-mul-walk : (t : ℕ) → walk-lts.Need-mul-walk (claims t) (walk-at t) walk.Post
-walk-mul-walk t c = search needs
+walk-mul-t13 : (t : ℕ) → walk-lts.Need-mul-t13 (claims t) (walk-at t) walk.Post
+walk-mul-t13 t c = search needs
 
-walk-element-copy-out-walk : (t : ℕ) → walk-lts.Need-element-copy-out-walk (claims t) (walk-at t) walk.Post
-walk-element-copy-out-walk t c = search needs
+walk-element-copy-out-t23 : (t : ℕ) → walk-lts.Need-element-copy-out-t23 (claims t) (walk-at t) walk.Post
+walk-element-copy-out-t23 t c = search needs
 
 walk-less-requires : (t : ℕ) → walk-lts.Need-less-requires (claims t) (walk-at t) walk.Post
 walk-less-requires t c κs = search needs
@@ -94,8 +100,10 @@ pub +walk-spec : {M : Type 1} → statement M
     (walk-mul-if2 t)
     (walk-element-copy-out-if2 t)
     (walk-returns-2 t)
-    (walk-mul-hopeless t)
     (walk-element-copy-out-hopeless t)
+    (walk-add-hopeless t)
+    (walk-mul-hopeless t)
+    (walk-element-copy-out-hopeless-2 t)
     (walk-hopeless-requires t)
     (walk-returns-3 t)
     (walk-returns-4 t)
@@ -103,8 +111,8 @@ pub +walk-spec : {M : Type 1} → statement M
     (walk-walk-requires t)
     (walk-has-requires t)
     (walk-returns-5 t)
-    (walk-mul-walk t)
-    (walk-element-copy-out-walk t)
+    (walk-mul-t13 t)
+    (walk-element-copy-out-t23 t)
     (walk-less-requires t)
     (walk-weight-with-requires t)
     (walk-walk-requires-2 t)

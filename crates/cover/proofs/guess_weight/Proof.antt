@@ -3,17 +3,18 @@
 use Prim.Native.Nat.{_-_, _≤_}
 use mathlib.Core.Path.{_≡_}
 use Rattle.sums.specs.Sum.{sumTo}
-use Rattle.sums.specs.NumSet.{pick}
+use Rattle.sums.specs.NumSet.{onlyIn}
+use Rattle.sums.specs.Table.{entry}
 use Rattle.sums.proofs.LoopLaws.{sum-start, sum-next}
 use Rattle.sums.proofs.LoopLaws.{sum-ended}
-use Rattle.cover.specs.Tables.{entry, spared}
+use Rattle.cover.specs.Tables.{spared}
 use Rattle.cover.proofs.TableLaws.{weights-below}
 use borrow.Author.Needs.{needs}
 use Rattle.cover.proofs.guess_weight.Statement.{statement}
 use Rattle.cover.proofs.guess_weight.Tie as tie
 
 abbrev Inv-loop : tie.InvT-loop
-Inv-loop weights u out guess sum₀ i₀ sum i = (i ≤ u) × (sum ≡ sumTo i (pick (spared out guess) (entry weights)))
+Inv-loop weights u out guess sum₀ i₀ sum i = (i ≤ u) × (sum ≡ sumTo i (onlyIn (spared out guess) (entry weights)))
 
 abbrev μ-loop : tie.MeasureT-loop
 μ-loop weights u out guess sum₀ i₀ sum i = u - i
@@ -21,17 +22,8 @@ abbrev μ-loop : tie.MeasureT-loop
 loop-holds : tie.Need-loop-holds Inv-loop μ-loop
 loop-holds c = (search needs, search sum-start)
 
-spared-part-requires : tie.Need-spared-part-requires Inv-loop μ-loop
-spared-part-requires c κs = search needs
-
 add-sum : tie.Need-add-sum Inv-loop μ-loop
 add-sum c = search (needs, weights-below)
-
-add-i : tie.Need-add-i Inv-loop μ-loop
-add-i c = search needs
-
-loop-less : tie.Need-loop-less Inv-loop μ-loop
-loop-less c = search needs
 
 loop-again : tie.Need-loop-again Inv-loop μ-loop
 loop-again c = (search needs, search sum-next)
@@ -46,9 +38,9 @@ guess-weight-spec =
     Inv-loop
     μ-loop
     loop-holds
-    spared-part-requires
+    (λ c κs. search needs)
     add-sum
-    add-i
-    loop-less
+    (λ c. search needs)
+    (λ c. search needs)
     loop-again
     returns)

@@ -5,17 +5,11 @@ use borrow.Author.Needs.{needs}
 use Rattle.cover.proofs.hopeless.Statement.{statement}
 use Rattle.cover.proofs.hopeless.Tie as tie
 
-add-result : tie.Need-add-result
-add-result c = search needs
-
 mul-result : tie.Need-mul-result
 mul-result c = search (needs, need-fits)
 
 add-result-2 : tie.Need-add-result-2
 add-result-2 c = search (needs, weight-fits)
 
-returns : tie.Need-returns
-returns c = search needs
-
 pub hopeless-spec : {M : Type 1} → statement M
-hopeless-spec = tie.close (tie.spec add-result mul-result add-result-2 returns)
+hopeless-spec = tie.close (tie.spec (λ c. search needs) mul-result add-result-2 (λ c. search needs))

@@ -14,22 +14,10 @@ abbrev μ-loop : tie.MeasureT-loop
 loop-holds : tie.Need-loop-holds Inv-loop μ-loop
 loop-holds c = (search needs, search needs)
 
-lighter-requires : tie.Need-lighter-requires Inv-loop μ-loop
-lighter-requires c κs = search needs
-
-add-i : tie.Need-add-i Inv-loop μ-loop
-add-i c = search needs
-
-loop-less : tie.Need-loop-less Inv-loop μ-loop
-loop-less c = search needs
-
 loop-again : tie.Need-loop-again Inv-loop μ-loop
 loop-again c = (search needs, search needs)
-
-returns : tie.Need-returns Inv-loop μ-loop
-returns c = search needs
 
 pub lightest-spec : {M : Type 1} → statement M
 lightest-spec =
     tie.close
-    (tie.spec Inv-loop μ-loop loop-holds lighter-requires add-i loop-less loop-again returns)
+    (tie.spec Inv-loop μ-loop loop-holds (λ c κs. search needs) (λ c. search needs) (λ c. search needs) loop-again (λ c. search needs))

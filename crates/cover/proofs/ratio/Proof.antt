@@ -5,14 +5,8 @@ use borrow.Author.Needs.{needs}
 use Rattle.cover.proofs.ratio.Statement.{statement}
 use Rattle.cover.proofs.ratio.Tie as tie
 
-returns : tie.Need-returns
-returns c = search needs
-
-div-result : tie.Need-div-result
-div-result c = search needs
-
 returns-2 : tie.Need-returns-2
 returns-2 c = div-le-self _ _
 
 pub ratio-spec : {M : Type 1} → statement M
-ratio-spec = tie.close (tie.spec returns div-result returns-2)
+ratio-spec = tie.close (tie.spec (λ c. search needs) (λ c. search needs) returns-2)

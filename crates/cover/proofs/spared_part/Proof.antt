@@ -5,20 +5,8 @@ use borrow.Author.Needs.{needs}
 use Rattle.cover.proofs.spared_part.Statement.{statement}
 use Rattle.cover.proofs.spared_part.Tie as tie
 
-has-requires : tie.Need-has-requires
-has-requires c κs = search needs
-
 returns : tie.Need-returns
 returns c = search spared-out
-
-has-requires-2 : tie.Need-has-requires-2
-has-requires-2 c κs = search needs
-
-mul-result : tie.Need-mul-result
-mul-result c = search needs
-
-element-copy-out-result : tie.Need-element-copy-out-result
-element-copy-out-result c = search needs
 
 returns-2 : tie.Need-returns-2
 returns-2 c = search spared-in
@@ -30,10 +18,10 @@ pub spared-part-spec : {M : Type 1} → statement M
 spared-part-spec =
     tie.close
     (tie.spec
-    has-requires
+    (λ c κs. search needs)
     returns
-    has-requires-2
-    mul-result
-    element-copy-out-result
+    (λ c κs. search needs)
+    (λ c. search needs)
+    (λ c. search needs)
     returns-2
     returns-3)

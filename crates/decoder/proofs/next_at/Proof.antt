@@ -5,17 +5,11 @@ use borrow.Author.Needs.{needs}
 use Rattle.decoder.proofs.next_at.Statement.{statement}
 use Rattle.decoder.proofs.next_at.Tie as tie
 
-layout-of-requires : tie.Need-layout-of-requires
-layout-of-requires c κs = search needs
-
 stage-at-requires : tie.Need-stage-at-requires
 stage-at-requires c κs = (search needs, search open-inside)
 
 pass-stage-requires : tie.Need-pass-stage-requires
 pass-stage-requires c κs = (search stage-clear, (search needs, search open-inside, search needs))
 
-returns : tie.Need-returns
-returns c = search needs
-
 pub next-at-spec : {M : Type 1} → statement M
-next-at-spec = tie.close (tie.spec layout-of-requires stage-at-requires pass-stage-requires returns)
+next-at-spec = tie.close (tie.spec (λ c κs. search needs) stage-at-requires pass-stage-requires (λ c. search needs))

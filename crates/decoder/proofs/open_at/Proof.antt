@@ -8,20 +8,8 @@ use Rattle.decoder.proofs.open_at.Tie as tie
 returns : tie.Need-returns
 returns c = search open-ended
 
-fault-at-requires : tie.Need-fault-at-requires
-fault-at-requires c κs = search needs
-
 returns-2 : tie.Need-returns-2
 returns-2 c = search open-fault
-
-mul-kind-of : tie.Need-mul-kind-of
-mul-kind-of c = search needs
-
-shared-slice-read-kind-of : tie.Need-shared-slice-read-kind-of
-shared-slice-read-kind-of c = search needs
-
-kind-of-requires : tie.Need-kind-of-requires
-kind-of-requires c κs = search needs
 
 returns-3 : tie.Need-returns-3
 returns-3 c = search open-end
@@ -34,10 +22,10 @@ open-at-spec =
     tie.close
     (tie.spec
     returns
-    fault-at-requires
+    (λ c κs. search needs)
     returns-2
-    mul-kind-of
-    shared-slice-read-kind-of
-    kind-of-requires
+    (λ c. search needs)
+    (λ c. search needs)
+    (λ c κs. search needs)
     returns-3
     returns-4)

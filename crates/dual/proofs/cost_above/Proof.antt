@@ -5,17 +5,11 @@ use borrow.Author.Needs.{needs}
 use Rattle.dual.proofs.cost_above.Statement.{statement}
 use Rattle.dual.proofs.cost_above.Tie as tie
 
-priced-cost-requires : tie.Need-priced-cost-requires
-priced-cost-requires c κs = search needs
-
 sub-result : tie.Need-sub-result
 sub-result c = search least-above
-
-cast-result : tie.Need-cast-result
-cast-result c = search needs
 
 returns : tie.Need-returns
 returns c = search least-rest
 
 pub cost-above-spec : {M : Type 1} → statement M
-cost-above-spec = tie.close (tie.spec priced-cost-requires sub-result cast-result returns)
+cost-above-spec = tie.close (tie.spec (λ c κs. search needs) sub-result (λ c. search needs) returns)

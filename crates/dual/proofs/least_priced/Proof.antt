@@ -15,26 +15,11 @@ Inv-loop words l tables i least₀ s₀ s-end least s = StartsTo (problemOf word
 abbrev μ-loop : tie.MeasureT-loop
 μ-loop words l tables i least₀ s₀ s-end least s = s-end - s
 
-starts-of-requires : tie.Need-starts-of-requires Inv-loop μ-loop
-starts-of-requires c κs = search needs
-
-add-s-end : tie.Need-add-s-end Inv-loop μ-loop
-add-s-end c = search needs
-
 loop-holds : tie.Need-loop-holds Inv-loop μ-loop
 loop-holds c = (search starts-begin, search least-start)
 
 priced-cost-requires : tie.Need-priced-cost-requires Inv-loop μ-loop
 priced-cost-requires c κs = (search least-at, search needs)
-
-smaller-requires : tie.Need-smaller-requires Inv-loop μ-loop
-smaller-requires c κs = search needs
-
-add-s : tie.Need-add-s Inv-loop μ-loop
-add-s c = search needs
-
-loop-less : tie.Need-loop-less Inv-loop μ-loop
-loop-less c = search needs
 
 loop-again : tie.Need-loop-again Inv-loop μ-loop
 loop-again c = (search starts-next, search least-next)
@@ -48,12 +33,13 @@ least-priced-spec =
     (tie.spec
     Inv-loop
     μ-loop
-    starts-of-requires
-    add-s-end
+    (λ c κs. search needs)
+    (λ c. search needs)
     loop-holds
     priced-cost-requires
-    smaller-requires
-    add-s
-    loop-less
+    (λ c κs. search needs)
+    (λ c κs. search needs)
+    (λ c. search needs)
+    (λ c. search needs)
     loop-again
     returns)

@@ -5,23 +5,11 @@ use borrow.Author.Needs.{needs}
 use Rattle.dual.proofs.put_back.Statement.{statement}
 use Rattle.dual.proofs.put_back.Tie as tie
 
-array-read-start : tie.Need-array-read-start
-array-read-start c = search needs
-
-cast-start : tie.Need-cast-start
-cast-start c = search needs
-
-duration-requires : tie.Need-duration-requires
-duration-requires c κs = search needs
-
 sub-put-weeks-back : tie.Need-sub-put-weeks-back
 sub-put-weeks-back c = search (needs, own-some)
 
 put-weeks-back-requires : tie.Need-put-weeks-back-requires
 put-weeks-back-requires c κs = (search own-ends, search needs)
-
-same-length : tie.Need-same-length
-same-length c = search needs
 
 returns : tie.Need-returns
 returns c = search back-of
@@ -30,10 +18,10 @@ pub put-back-spec : {M : Type 1} → statement M
 put-back-spec =
     tie.close
     (tie.spec
-    array-read-start
-    cast-start
-    duration-requires
+    (λ c. search needs)
+    (λ c. search needs)
+    (λ c κs. search needs)
     sub-put-weeks-back
     put-weeks-back-requires
-    same-length
+    (λ c. search needs)
     returns)

@@ -14,41 +14,11 @@ Inv-loop words l tables i next₀ least s₀ s-end next s = StartsTo (problemOf 
 abbrev μ-loop : tie.MeasureT-loop
 μ-loop words l tables i next₀ least s₀ s-end next s = s-end - s
 
-starts-of-requires : tie.Need-starts-of-requires Inv-loop μ-loop
-starts-of-requires c κs = search needs
-
-least-priced-requires : tie.Need-least-priced-requires Inv-loop μ-loop
-least-priced-requires c κs = search needs
-
-cast-next : tie.Need-cast-next Inv-loop μ-loop
-cast-next c = search needs
-
-mul-next : tie.Need-mul-next Inv-loop μ-loop
-mul-next c = search needs
-
-add-next : tie.Need-add-next Inv-loop μ-loop
-add-next c = search needs
-
-mul-next-2 : tie.Need-mul-next-2 Inv-loop μ-loop
-mul-next-2 c = search needs
-
-element-write-next : tie.Need-element-write-next Inv-loop μ-loop
-element-write-next c = search needs
-
-add-s-end : tie.Need-add-s-end Inv-loop μ-loop
-add-s-end c = search needs
-
 loop-holds : tie.Need-loop-holds Inv-loop μ-loop
 loop-holds c = (search starts-begin, search put-least)
 
 put-start-requires : tie.Need-put-start-requires Inv-loop μ-loop
 put-start-requires c κs = (search needs, search starts-permit, search needs)
-
-add-s : tie.Need-add-s Inv-loop μ-loop
-add-s c = search needs
-
-loop-less : tie.Need-loop-less Inv-loop μ-loop
-loop-less c = search needs
 
 loop-again : tie.Need-loop-again Inv-loop μ-loop
 loop-again c = (search starts-next, search needs)
@@ -62,17 +32,17 @@ put-costs-spec =
     (tie.spec
     Inv-loop
     μ-loop
-    starts-of-requires
-    least-priced-requires
-    cast-next
-    mul-next
-    add-next
-    mul-next-2
-    element-write-next
-    add-s-end
+    (λ c κs. search needs)
+    (λ c κs. search needs)
+    (λ c. search needs)
+    (λ c. search needs)
+    (λ c. search needs)
+    (λ c. search needs)
+    (λ c. search needs)
+    (λ c. search needs)
     loop-holds
     put-start-requires
-    add-s
-    loop-less
+    (λ c. search needs)
+    (λ c. search needs)
     loop-again
     returns)

@@ -8,21 +8,6 @@ use Rattle.dual.proofs.put_start.Tie as tie
 cost-above-requires : tie.Need-cost-above-requires
 cost-above-requires c κs = ((search put-at, search needs), search put-under)
 
-mul-next : tie.Need-mul-next
-mul-next c = search needs
-
-add-next : tie.Need-add-next
-add-next c = search needs
-
-add-next-2 : tie.Need-add-next-2
-add-next-2 c = search needs
-
-mul-next-2 : tie.Need-mul-next-2
-mul-next-2 c = search needs
-
-element-write-next : tie.Need-element-write-next
-element-write-next c = search needs
-
 returns : tie.Need-returns
 returns c = search put-next
 
@@ -31,9 +16,9 @@ put-start-spec =
     tie.close
     (tie.spec
     cost-above-requires
-    mul-next
-    add-next
-    add-next-2
-    mul-next-2
-    element-write-next
+    (λ c. search needs)
+    (λ c. search needs)
+    (λ c. search needs)
+    (λ c. search needs)
+    (λ c. search needs)
     returns)

@@ -17,38 +17,11 @@ Inv-loop words l tables i start duration first sum₀ k₀ sum k = (k ≤ durati
 abbrev μ-loop : tie.MeasureT-loop
 μ-loop words l tables i start duration first sum₀ k₀ sum k = duration - k
 
-duration-requires : tie.Need-duration-requires Inv-loop μ-loop
-duration-requires c κs = search needs
-
 sub-first : tie.Need-sub-first Inv-loop μ-loop
 sub-first c = search (needs, start-some)
 
 loop-holds : tie.Need-loop-holds Inv-loop μ-loop
 loop-holds c = (search needs, search ends-within, search needs, search sum-start)
-
-add-maint-cost : tie.Need-add-maint-cost Inv-loop μ-loop
-add-maint-cost c = search needs
-
-maint-cost-requires : tie.Need-maint-cost-requires Inv-loop μ-loop
-maint-cost-requires c κs = search needs
-
-add-price : tie.Need-add-price Inv-loop μ-loop
-add-price c = search needs
-
-price-requires : tie.Need-price-requires Inv-loop μ-loop
-price-requires c κs = search needs
-
-plus-requires : tie.Need-plus-requires Inv-loop μ-loop
-plus-requires c κs = search needs
-
-plus-requires-2 : tie.Need-plus-requires-2 Inv-loop μ-loop
-plus-requires-2 c κs = search needs
-
-add-k : tie.Need-add-k Inv-loop μ-loop
-add-k c = search needs
-
-loop-less : tie.Need-loop-less Inv-loop μ-loop
-loop-less c = search needs
 
 loop-again : tie.Need-loop-again Inv-loop μ-loop
 loop-again c = (search needs, search needs, search needs, search priced-next)
@@ -62,16 +35,16 @@ span-cost-spec =
     (tie.spec
     Inv-loop
     μ-loop
-    duration-requires
+    (λ c κs. search needs)
     sub-first
     loop-holds
-    add-maint-cost
-    maint-cost-requires
-    add-price
-    price-requires
-    plus-requires
-    plus-requires-2
-    add-k
-    loop-less
+    (λ c. search needs)
+    (λ c κs. search needs)
+    (λ c. search needs)
+    (λ c κs. search needs)
+    (λ c κs. search needs)
+    (λ c κs. search needs)
+    (λ c. search needs)
+    (λ c. search needs)
     loop-again
     returns)

@@ -11,8 +11,5 @@ returns c = search front-all
 slice-aggregate-result : tie.Need-slice-aggregate-result
 slice-aggregate-result c = search front-length
 
-returns-2 : tie.Need-returns-2
-returns-2 c = search needs
-
 pub front-spec : {M : Type 1} → statement M
-front-spec = tie.close (tie.spec returns slice-aggregate-result returns-2)
+front-spec = tie.close (tie.spec returns slice-aggregate-result (λ c. search needs))

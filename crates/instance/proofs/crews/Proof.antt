@@ -5,14 +5,8 @@ use borrow.Author.Needs.{needs}
 use Rattle.instance.proofs.crews.Statement.{statement}
 use Rattle.instance.proofs.crews.Tie as tie
 
-shared-slice-read-value-of : tie.Need-shared-slice-read-value-of
-shared-slice-read-value-of c = search needs
-
-value-of-requires : tie.Need-value-of-requires
-value-of-requires c κs = search needs
-
 returns : tie.Need-returns
 returns c = (search crews-at, search crews-some, search crews-most)
 
 pub crews-spec : {M : Type 1} → statement M
-crews-spec = tie.close (tie.spec shared-slice-read-value-of value-of-requires returns)
+crews-spec = tie.close (tie.spec (λ c. search needs) (λ c κs. search needs) returns)

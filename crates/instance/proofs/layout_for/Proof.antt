@@ -8,15 +8,6 @@ use Rattle.instance.proofs.PlaceLaws.{table-below}
 use Rattle.instance.proofs.layout_for.Statement.{statement}
 use Rattle.instance.proofs.layout_for.Tie as tie
 
-add-triples : tie.Need-add-triples
-add-triples c = search needs
-
-mul-maints : tie.Need-mul-maints
-mul-maints c = search needs
-
-add-maints : tie.Need-add-maints
-add-maints c = search needs
-
 mul-cells : tie.Need-mul-cells
 mul-cells c = omega (arith, table-below _ _ (c .pre .0) (c .pre .1))
 
@@ -35,4 +26,4 @@ returns c = refl
 
 pub layout-for-spec : {M : Type 1} → statement M
 layout-for-spec =
-    tie.close (tie.spec add-triples mul-maints add-maints mul-cells add-runnings add-offs add-pairs returns)
+    tie.close (tie.spec (λ c. search needs) (λ c. search needs) (λ c. search needs) mul-cells add-runnings add-offs add-pairs returns)

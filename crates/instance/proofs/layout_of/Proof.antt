@@ -6,24 +6,6 @@ use Rattle.instance.proofs.OffLaws.{laid-words}
 use Rattle.instance.proofs.layout_of.Statement.{statement}
 use Rattle.instance.proofs.layout_of.Tie as tie
 
-value-at-requires : tie.Need-value-at-requires
-value-at-requires c κs = search needs
-
-value-at-requires-2 : tie.Need-value-at-requires-2
-value-at-requires-2 c κs = search needs
-
-layout-for-requires : tie.Need-layout-for-requires
-layout-for-requires c κs = search needs
-
-cells-of-requires : tie.Need-cells-of-requires
-cells-of-requires c κs = search needs
-
-off-words-requires : tie.Need-off-words-requires
-off-words-requires c κs = search needs
-
-layout-for-requires-2 : tie.Need-layout-for-requires-2
-layout-for-requires-2 c κs = search needs
-
 returns : tie.Need-returns
 unfolding layoutOf
 returns c = search laid-words
@@ -32,10 +14,10 @@ pub layout-of-spec : {M : Type 1} → statement M
 layout-of-spec =
     tie.close
     (tie.spec
-    value-at-requires
-    value-at-requires-2
-    layout-for-requires
-    cells-of-requires
-    off-words-requires
-    layout-for-requires-2
+    (λ c κs. search needs)
+    (λ c κs. search needs)
+    (λ c κs. search needs)
+    (λ c κs. search needs)
+    (λ c κs. search needs)
+    (λ c κs. search needs)
     returns)

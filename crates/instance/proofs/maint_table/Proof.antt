@@ -5,21 +5,9 @@ use Rattle.instance.proofs.TableLaws.{maints-part}
 use Rattle.instance.proofs.maint_table.Statement.{statement}
 use Rattle.instance.proofs.maint_table.Tie as tie
 
-mul-result : tie.Need-mul-result
-mul-result c = search needs
-
-sub-result : tie.Need-sub-result
-sub-result c = search needs
-
-part-result-start : tie.Need-part-result-start
-part-result-start c = search needs
-
-part-result-end : tie.Need-part-result-end
-part-result-end c = search needs
-
 returns : tie.Need-returns
 returns c = search maints-part
 
 pub maint-table-spec : {M : Type 1} → statement M
 maint-table-spec =
-    tie.close (tie.spec mul-result sub-result part-result-start part-result-end returns)
+    tie.close (tie.spec (λ c. search needs) (λ c. search needs) (λ c. search needs) (λ c. search needs) returns)

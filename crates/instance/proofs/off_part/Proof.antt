@@ -5,12 +5,6 @@ use borrow.Author.Needs.{needs}
 use Rattle.instance.proofs.off_part.Statement.{statement}
 use Rattle.instance.proofs.off_part.Tie as tie
 
-has-requires : tie.Need-has-requires
-has-requires c κs = search needs
-
-off-cost-requires : tie.Need-off-cost-requires
-off-cost-requires c κs = search needs
-
 returns : tie.Need-returns
 returns c = (search pick-in, search needs)
 
@@ -18,4 +12,4 @@ returns-2 : tie.Need-returns-2
 returns-2 c = (search pick-out, search needs)
 
 pub off-part-spec : {M : Type 1} → statement M
-off-part-spec = tie.close (tie.spec has-requires off-cost-requires returns returns-2)
+off-part-spec = tie.close (tie.spec (λ c κs. search needs) (λ c κs. search needs) returns returns-2)

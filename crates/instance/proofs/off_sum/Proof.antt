@@ -3,7 +3,7 @@
 use Prim.Native.Nat.{_-_, _*_, _≤_}
 use mathlib.Core.Path.{_≡_}
 use Rattle.sums.specs.Sum.{sumTo}
-use Rattle.sums.specs.NumSet.{has, pick}
+use Rattle.sums.specs.NumSet.{has, onlyIn}
 use Rattle.sums.proofs.LoopLaws.{sum-start, sum-next}
 use Rattle.model.specs.Words.{problemOf}
 use Rattle.instance.proofs.RunLaws.{off-ended}
@@ -13,25 +13,13 @@ use Rattle.instance.proofs.off_sum.Tie as tie
 
 abbrev Inv-loop : tie.InvT-loop
 Inv-loop words l t run units sum₀ i₀ sum i =
-    (i ≤ units) × (sum .0 ≤ 250000 * i) × (sum .0 ≡ sumTo i (pick (has run) (problemOf words .off t)))
+    (i ≤ units) × (sum .0 ≤ 250000 * i) × (sum .0 ≡ sumTo i (onlyIn (has run) (problemOf words .off t)))
 
 abbrev μ-loop : tie.MeasureT-loop
 μ-loop words l t run units sum₀ i₀ sum i = units - i
 
 loop-holds : tie.Need-loop-holds Inv-loop μ-loop
 loop-holds c = (search needs, search needs, search sum-start)
-
-off-part-requires : tie.Need-off-part-requires Inv-loop μ-loop
-off-part-requires c κs = search needs
-
-plus-requires : tie.Need-plus-requires Inv-loop μ-loop
-plus-requires c κs = search needs
-
-add-i : tie.Need-add-i Inv-loop μ-loop
-add-i c = search needs
-
-loop-less : tie.Need-loop-less Inv-loop μ-loop
-loop-less c = search needs
 
 loop-again : tie.Need-loop-again Inv-loop μ-loop
 loop-again c = (search needs, search needs, search sum-next)
@@ -46,9 +34,9 @@ off-sum-spec =
     Inv-loop
     μ-loop
     loop-holds
-    off-part-requires
-    plus-requires
-    add-i
-    loop-less
+    (λ c κs. search needs)
+    (λ c κs. search needs)
+    (λ c. search needs)
+    (λ c. search needs)
     loop-again
     returns)

@@ -5,9 +5,6 @@ use Rattle.instance.proofs.OffLaws.{off-some, off-lacks}
 use Rattle.instance.proofs.off_words.Statement.{statement}
 use Rattle.instance.proofs.off_words.Tie as tie
 
-kind-at-requires : tie.Need-kind-at-requires
-kind-at-requires c κs = search needs
-
 returns : tie.Need-returns
 returns c = (search off-some, search needs)
 
@@ -15,4 +12,4 @@ returns-2 : tie.Need-returns-2
 returns-2 c = (search off-lacks, search needs)
 
 pub off-words-spec : {M : Type 1} → statement M
-off-words-spec = tie.close (tie.spec kind-at-requires returns returns-2)
+off-words-spec = tie.close (tie.spec (λ c κs. search needs) returns returns-2)

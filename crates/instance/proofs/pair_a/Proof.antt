@@ -6,9 +6,6 @@ use Rattle.instance.proofs.PlaceLaws.{pair-a-above}
 use Rattle.instance.proofs.pair_a.Statement.{statement}
 use Rattle.instance.proofs.pair_a.Tie as tie
 
-pair-value-requires : tie.Need-pair-value-requires
-pair-value-requires c κs = search needs
-
 sub-result : tie.Need-sub-result
 sub-result c = search pair-a-above
 
@@ -16,4 +13,4 @@ returns : tie.Need-returns
 returns c = (search pair-a-at, search pair-a-most)
 
 pub pair-a-spec : {M : Type 1} → statement M
-pair-a-spec = tie.close (tie.spec pair-value-requires sub-result returns)
+pair-a-spec = tie.close (tie.spec (λ c κs. search needs) sub-result returns)

@@ -6,9 +6,6 @@ use Rattle.instance.proofs.PlaceLaws.{pair-b-above}
 use Rattle.instance.proofs.pair_b.Statement.{statement}
 use Rattle.instance.proofs.pair_b.Tie as tie
 
-pair-value-requires : tie.Need-pair-value-requires
-pair-value-requires c κs = search needs
-
 sub-result : tie.Need-sub-result
 sub-result c = search pair-b-above
 
@@ -16,4 +13,4 @@ returns : tie.Need-returns
 returns c = (search pair-b-at, search pair-b-most)
 
 pub pair-b-spec : {M : Type 1} → statement M
-pair-b-spec = tie.close (tie.spec pair-value-requires sub-result returns)
+pair-b-spec = tie.close (tie.spec (λ c κs. search needs) sub-result returns)

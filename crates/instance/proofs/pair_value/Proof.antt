@@ -15,13 +15,10 @@ mul-value-of c = search (needs, pair-below)
 shared-slice-read-value-of : tie.Need-shared-slice-read-value-of
 shared-slice-read-value-of c = search pair-below
 
-value-of-requires : tie.Need-value-of-requires
-value-of-requires c κs = search needs
-
 returns : tie.Need-returns
 unfolding valueAt
 returns c = search needs
 
 pub pair-value-spec : {M : Type 1} → statement M
 pair-value-spec =
-    tie.close (tie.spec add-q mul-value-of shared-slice-read-value-of value-of-requires returns)
+    tie.close (tie.spec add-q mul-value-of shared-slice-read-value-of (λ c κs. search needs) returns)

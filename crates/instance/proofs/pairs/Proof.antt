@@ -5,14 +5,8 @@ use Rattle.instance.proofs.FigureLaws.{pairs-at, pairs-most}
 use Rattle.instance.proofs.pairs.Statement.{statement}
 use Rattle.instance.proofs.pairs.Tie as tie
 
-add-result : tie.Need-add-result
-add-result c = search needs
-
-sub-result : tie.Need-sub-result
-sub-result c = search needs
-
 returns : tie.Need-returns
 returns c = (search pairs-at, search pairs-most)
 
 pub pairs-spec : {M : Type 1} → statement M
-pairs-spec = tie.close (tie.spec add-result sub-result returns)
+pairs-spec = tie.close (tie.spec (λ c. search needs) (λ c. search needs) returns)

@@ -15,20 +15,8 @@ Inv-loop words l i count found₀ n₀ found n = (n ≤ count) × Gathered (join
 abbrev μ-loop : tie.MeasureT-loop
 μ-loop words l i count found₀ n₀ found n = count - n
 
-pairs-requires : tie.Need-pairs-requires Inv-loop μ-loop
-pairs-requires c κs = search needs
-
 loop-holds : tie.Need-loop-holds Inv-loop μ-loop
 loop-holds c = (search needs, search gathered-start)
-
-partner-added-requires : tie.Need-partner-added-requires Inv-loop μ-loop
-partner-added-requires c κs = search needs
-
-add-n : tie.Need-add-n Inv-loop μ-loop
-add-n c = search needs
-
-loop-less : tie.Need-loop-less Inv-loop μ-loop
-loop-less c = search needs
 
 loop-again : tie.Need-loop-again Inv-loop μ-loop
 loop-again c = (search needs, search gathered-next)
@@ -42,10 +30,10 @@ partners-spec =
     (tie.spec
     Inv-loop
     μ-loop
-    pairs-requires
+    (λ c κs. search needs)
     loop-holds
-    partner-added-requires
-    add-n
-    loop-less
+    (λ c κs. search needs)
+    (λ c. search needs)
+    (λ c. search needs)
     loop-again
     returns)

@@ -18,17 +18,11 @@ share-fits a n h l = omega (arith, share a n h)
 share-below : (a n : ℕ) → 0 < n → a % 4294967296 * n / 4294967296 < n
 share-below a n h = omega (arith, share a n h)
 
-mul-spread : tie.Need-mul-spread
-mul-spread c = search needs
-
 mul-result : tie.Need-mul-result
 mul-result c = search (needs, share-fits)
 
 returns : tie.Need-returns
 returns c = search share-below
 
-returns-2 : tie.Need-returns-2
-returns-2 c = search needs
-
 pub slot-spec : {M : Type 1} → statement M
-slot-spec = tie.close (tie.spec mul-spread mul-result returns returns-2)
+slot-spec = tie.close (tie.spec (λ c. search needs) mul-result returns (λ c. search needs))

@@ -8,21 +8,6 @@ use Rattle.nogood.proofs.conclude.Tie as tie
 returns : tie.Need-returns
 returns c = (search (needs, end-none-used), search (needs, end-none-words))
 
-bound-word-requires : tie.Need-bound-word-requires
-bound-word-requires c κs = search needs
-
-mul-table : tie.Need-mul-table
-mul-table c = search needs
-
-slice-write-table : tie.Need-slice-write-table
-slice-write-table c = search needs
-
-add-result : tie.Need-add-result
-add-result c = search needs
-
-same-length : tie.Need-same-length
-same-length c = search needs
-
 returns-2 : tie.Need-returns-2
 returns-2 c = (search end-some-used, search end-some-words)
 
@@ -31,9 +16,9 @@ conclude-spec =
     tie.close
     (tie.spec
     returns
-    bound-word-requires
-    mul-table
-    slice-write-table
-    add-result
-    same-length
+    (λ c κs. search needs)
+    (λ c. search needs)
+    (λ c. search needs)
+    (λ c. search needs)
+    (λ c. search needs)
     returns-2)

@@ -6,9 +6,6 @@ use Rattle.sums.specs.Sum.{countsOne}
 use Rattle.nogood.proofs.member.Statement.{statement}
 use Rattle.nogood.proofs.member.Tie as tie
 
-has-requires : tie.Need-has-requires
-has-requires c κs = search needs
-
 returns : tie.Need-returns
 unfolding countsOne
 returns c = (search pick-in, search needs)
@@ -17,4 +14,4 @@ returns-2 : tie.Need-returns-2
 returns-2 c = (search pick-out, search needs)
 
 pub member-spec : {M : Type 1} → statement M
-member-spec = tie.close (tie.spec has-requires returns returns-2)
+member-spec = tie.close (tie.spec (λ c κs. search needs) returns returns-2)

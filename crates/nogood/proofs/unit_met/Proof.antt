@@ -5,17 +5,11 @@ use Rattle.nogood.proofs.RecallLaws.{unit-none, unit-some}
 use Rattle.nogood.proofs.unit_met.Statement.{statement}
 use Rattle.nogood.proofs.unit_met.Tie as tie
 
-value-of-requires : tie.Need-value-of-requires
-value-of-requires c κs = search needs
-
 returns : tie.Need-returns
 returns c = search unit-none
 
 returns-2 : tie.Need-returns-2
 returns-2 c = search unit-none
-
-start-of-requires : tie.Need-start-of-requires
-start-of-requires c κs = search needs
 
 returns-3 : tie.Need-returns-3
 returns-3 c = search unit-none
@@ -24,4 +18,4 @@ returns-4 : tie.Need-returns-4
 returns-4 c = search unit-some
 
 pub unit-met-spec : {M : Type 1} → statement M
-unit-met-spec = tie.close (tie.spec value-of-requires returns returns-2 start-of-requires returns-3 returns-4)
+unit-met-spec = tie.close (tie.spec (λ c κs. search needs) returns returns-2 (λ c κs. search needs) returns-3 returns-4)

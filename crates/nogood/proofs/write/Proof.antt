@@ -5,21 +5,6 @@ use Rattle.nogood.proofs.NotingLaws.{write-place, write-words, write-le
 use Rattle.nogood.proofs.write.Statement.{statement}
 use Rattle.nogood.proofs.write.Tie as tie
 
-bound-word-requires : tie.Need-bound-word-requires
-bound-word-requires c κs = search needs
-
-mul-table : tie.Need-mul-table
-mul-table c = search needs
-
-slice-write-table : tie.Need-slice-write-table
-slice-write-table c = search needs
-
-add-write-choices : tie.Need-add-write-choices
-add-write-choices c = search needs
-
-write-choices-requires : tie.Need-write-choices-requires
-write-choices-requires c κs = search needs
-
 same-length : tie.Need-same-length
 same-length c = search write-length
 
@@ -30,10 +15,10 @@ pub write-spec : {M : Type 1} → statement M
 write-spec =
     tie.close
     (tie.spec
-    bound-word-requires
-    mul-table
-    slice-write-table
-    add-write-choices
-    write-choices-requires
+    (λ c κs. search needs)
+    (λ c. search needs)
+    (λ c. search needs)
+    (λ c. search needs)
+    (λ c κs. search needs)
     same-length
     returns)

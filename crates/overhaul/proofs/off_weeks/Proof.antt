@@ -2,7 +2,7 @@
 -- Assumes nothing.
 use Prim.Native.Nat.{_-_, _*_, _≤_}
 use mathlib.Core.Path.{_≡_}
-use Rattle.sums.specs.Sum.{sumTo, turned}
+use Rattle.sums.specs.Sum.{sumTo, transposed}
 use Rattle.sums.proofs.LoopLaws.{sum-start}
 use Rattle.model.specs.Words.{problemOf}
 use Rattle.overhaul.proofs.OffLaws.{off-next, off-ended}
@@ -11,25 +11,13 @@ use Rattle.overhaul.proofs.off_weeks.Statement.{statement}
 use Rattle.overhaul.proofs.off_weeks.Tie as tie
 
 abbrev Inv-loop : tie.InvT-loop
-Inv-loop words l i weeks sum₀ t₀ sum t = (t ≤ weeks) × (sum .0 ≤ 250000 * t) × (sum .0 ≡ sumTo t (turned (problemOf words .off) i))
+Inv-loop words l i weeks sum₀ t₀ sum t = (t ≤ weeks) × (sum .0 ≤ 250000 * t) × (sum .0 ≡ sumTo t (transposed (problemOf words .off) i))
 
 abbrev μ-loop : tie.MeasureT-loop
 μ-loop words l i weeks sum₀ t₀ sum t = weeks - t
 
 loop-holds : tie.Need-loop-holds Inv-loop μ-loop
 loop-holds c = (search needs, search needs, search sum-start)
-
-off-cost-requires : tie.Need-off-cost-requires Inv-loop μ-loop
-off-cost-requires c κs = search needs
-
-plus-requires : tie.Need-plus-requires Inv-loop μ-loop
-plus-requires c κs = search needs
-
-add-t : tie.Need-add-t Inv-loop μ-loop
-add-t c = search needs
-
-loop-less : tie.Need-loop-less Inv-loop μ-loop
-loop-less c = search needs
 
 loop-again : tie.Need-loop-again Inv-loop μ-loop
 loop-again c = (search needs, search needs, search off-next)
@@ -44,9 +32,9 @@ off-weeks-spec =
     Inv-loop
     μ-loop
     loop-holds
-    off-cost-requires
-    plus-requires
-    add-t
-    loop-less
+    (λ c κs. search needs)
+    (λ c κs. search needs)
+    (λ c. search needs)
+    (λ c. search needs)
     loop-again
     returns)

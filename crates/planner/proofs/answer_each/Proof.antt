@@ -3,14 +3,14 @@
 use Prim.Native.Nat.{_-_, _/_, _≤_}
 use mathlib.Core.Path.{_≡_, refl}
 use lib.ListN.{length}
-use Rattle.planner.specs.Due.{Runs}
+use Rattle.planner.specs.Due.{RunDue}
 use Rattle.planner.proofs.DueLaws.{runs-turn, runs-fit, runs-next, runs-ended, runs-long}
 use borrow.Author.Needs.{needs}
 use Rattle.planner.proofs.answer_each.Statement.{statement}
 use Rattle.planner.proofs.answer_each.Tie as tie
 
 abbrev Inv-loop : tie.InvT-loop
-Inv-loop words l tables asks answers₀ table₀ scratch₀ n m₀ k₀ answers table scratch m k = (k ≤ n) × (n ≡ length asks / 2) × Runs words l tables asks answers₀ table₀ answers table m k scratch
+Inv-loop words l tables asks answers₀ table₀ scratch₀ n m₀ k₀ answers table scratch m k = (k ≤ n) × (n ≡ length asks / 2) × RunDue words l tables asks answers₀ table₀ answers table m k scratch
     × (length table ≡ length table₀) × (length answers ≡ length answers₀) × (length scratch ≡ length scratch₀)
 
 abbrev μ-loop : tie.MeasureT-loop
@@ -25,20 +25,8 @@ answer-requires c κs = search runs-turn
 add-k : tie.Need-add-k Inv-loop μ-loop
 add-k c = search runs-fit
 
-loop-less : tie.Need-loop-less Inv-loop μ-loop
-loop-less c = search needs
-
 loop-again : tie.Need-loop-again Inv-loop μ-loop
 loop-again c = (search needs, search needs, search runs-next, search needs, search needs, search needs)
-
-same-length : tie.Need-same-length Inv-loop μ-loop
-same-length c = search needs
-
-same-length-2 : tie.Need-same-length-2 Inv-loop μ-loop
-same-length-2 c = search needs
-
-same-length-3 : tie.Need-same-length-3 Inv-loop μ-loop
-same-length-3 c = search needs
 
 returns : tie.Need-returns Inv-loop μ-loop
 returns c = (search runs-ended, search runs-long)
@@ -52,9 +40,9 @@ answer-each-spec =
     loop-holds
     answer-requires
     add-k
-    loop-less
+    (λ c. search needs)
     loop-again
-    same-length
-    same-length-2
-    same-length-3
+    (λ c. search needs)
+    (λ c. search needs)
+    (λ c. search needs)
     returns)

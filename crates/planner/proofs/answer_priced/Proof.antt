@@ -1,39 +1,21 @@
--- `planner::answer_priced` meets its contract: on an emptied table and an emptied memory a run may begin, at any prices.
+-- `planner::answer_priced` meets its contract: on an emptied table and an emptied memo a run may begin, at any prices.
 -- Assumes nothing.
 use Rattle.planner.proofs.DueLaws.{runs-start}
 use borrow.Author.Needs.{needs}
 use Rattle.planner.proofs.answer_priced.Statement.{statement}
 use Rattle.planner.proofs.answer_priced.Tie as tie
 
-tables-of-requires : tie.Need-tables-of-requires
-tables-of-requires c κs = search needs
-
-nothing-requires : tie.Need-nothing-requires
-nothing-requires c κs = search needs
-
 answer-each-requires : tie.Need-answer-each-requires
 answer-each-requires c κs = search runs-start
-
-same-length : tie.Need-same-length
-same-length c = search needs
-
-same-length-2 : tie.Need-same-length-2
-same-length-2 c = search needs
-
-same-length-3 : tie.Need-same-length-3
-same-length-3 c = search needs
-
-returns : tie.Need-returns
-returns c = search needs
 
 pub answer-priced-spec : {M : Type 1} → statement M
 answer-priced-spec =
     tie.close
     (tie.spec
-    tables-of-requires
-    nothing-requires
+    (λ c κs. search needs)
+    (λ c κs. search needs)
     answer-each-requires
-    same-length
-    same-length-2
-    same-length-3
-    returns)
+    (λ c. search needs)
+    (λ c. search needs)
+    (λ c. search needs)
+    (λ c. search needs))

@@ -1,4 +1,4 @@
--- `planner::reply` meets its contract: the memory answers, or the search.
+-- `planner::reply` meets its contract: the carry answers, or the search.
 -- Assumes nothing.
 use Rattle.planner.proofs.DueLaws.{reply-few, told-none, told-again, told-asks, told-solved}
 use borrow.Author.Needs.{needs}
@@ -8,17 +8,8 @@ use Rattle.planner.proofs.reply.Tie as tie
 ceiling-requires : tie.Need-ceiling-requires
 ceiling-requires c κs = search reply-few
 
-cast-if1 : tie.Need-cast-if1
-cast-if1 c = search needs
-
-none-requires : tie.Need-none-requires
-none-requires c κs = search needs
-
 returns : tie.Need-returns
 returns c = search told-none
-
-again-requires : tie.Need-again-requires
-again-requires c κs = search needs
 
 returns-2 : tie.Need-returns-2
 returns-2 c = search told-again
@@ -29,12 +20,6 @@ budget-requires c κs = search reply-few
 solve-requires : tie.Need-solve-requires
 solve-requires c κs = search told-asks
 
-same-length : tie.Need-same-length
-same-length c = search needs
-
-same-length-2 : tie.Need-same-length-2
-same-length-2 c = search needs
-
 returns-3 : tie.Need-returns-3
 returns-3 c = search told-solved
 
@@ -43,13 +28,13 @@ reply-spec =
     tie.close
     (tie.spec
     ceiling-requires
-    cast-if1
-    none-requires
+    (λ c. search needs)
+    (λ c κs. search needs)
     returns
-    again-requires
+    (λ c κs. search needs)
     returns-2
     budget-requires
     solve-requires
-    same-length
-    same-length-2
+    (λ c. search needs)
+    (λ c. search needs)
     returns-3)

@@ -5,21 +5,15 @@ use borrow.Author.Needs.{needs}
 use Rattle.planner.proofs.tables_of.Statement.{statement}
 use Rattle.planner.proofs.tables_of.Tie as tie
 
-first-requires : tie.Need-first-requires
-first-requires c κs = search needs
-
 find-prices-requires : tie.Need-find-prices-requires
 find-prices-requires c κs = (search needs, search needs, search emptied-right)
 
-filled-requires : tie.Need-filled-requires
-filled-requires c κs = (search needs, search needs, search emptied-recalls)
-
-same-length : tie.Need-same-length
-same-length c = search needs
+fill-tables-requires : tie.Need-fill-tables-requires
+fill-tables-requires c κs = (search needs, search needs, search emptied-recalls)
 
 returns : tie.Need-returns
 returns c = search walking-of
 
 pub tables-of-spec : {M : Type 1} → statement M
 tables-of-spec =
-    tie.close (tie.spec first-requires find-prices-requires filled-requires same-length returns)
+    tie.close (tie.spec (λ c κs. search needs) find-prices-requires fill-tables-requires (λ c. search needs) returns)

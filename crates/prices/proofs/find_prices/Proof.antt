@@ -10,17 +10,11 @@ use Rattle.prices.proofs.find_prices.Tie as tie
 solve-relaxation-requires : tie.Need-solve-relaxation-requires
 solve-relaxation-requires c κs = (search priced-first, search needs)
 
-same-length : tie.Need-same-length
-same-length c = search needs
-
 returns : tie.Need-returns
 returns c = (search first-priced, search needs)
 
 ascend-requires : tie.Need-ascend-requires
 ascend-requires c κs = (search priced-first, search needs, search needs)
-
-same-length-2 : tie.Need-same-length-2
-same-length-2 c = search needs
 
 returns-2 : tie.Need-returns-2
 returns-2 c = (search needs, (search needs, search others-trans))
@@ -30,8 +24,8 @@ find-prices-spec =
     tie.close
     (tie.spec
     solve-relaxation-requires
-    same-length
+    (λ c. search needs)
     returns
     ascend-requires
-    same-length-2
+    (λ c. search needs)
     returns-2)

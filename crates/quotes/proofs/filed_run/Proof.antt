@@ -11,18 +11,6 @@ returns c = search run-zero
 returns-2 : tie.Need-returns-2
 returns-2 c = search run-beyond
 
-sub-cheapest : tie.Need-sub-cheapest
-sub-cheapest c = search needs
-
-cheapest-requires : tie.Need-cheapest-requires
-cheapest-requires c κs = search needs
-
-enum-told : tie.Need-enum-told
-enum-told c = search needs
-
-enum-known-found : tie.Need-enum-known-found
-enum-known-found c = search needs
-
 cast-t11 : tie.Need-cast-t11
 cast-t11 c = search run-fits
 
@@ -38,10 +26,10 @@ filed-run-spec =
     (tie.spec
     returns
     returns-2
-    sub-cheapest
-    cheapest-requires
-    enum-told
-    enum-known-found
+    (λ c. search needs)
+    (λ c κs. search needs)
+    (λ c. search needs)
+    (λ c. search needs)
     cast-t11
     returns-3
     returns-4)

@@ -11,15 +11,9 @@ returns c = search over-zero
 returns-2 : tie.Need-returns-2
 returns-2 c = search over-beyond
 
-sub-start-quote : tie.Need-sub-start-quote
-sub-start-quote c = search needs
-
-start-quote-requires : tie.Need-start-quote-requires
-start-quote-requires c κs = search needs
-
 returns-3 : tie.Need-returns-3
 returns-3 c = search over-some
 
 pub filed-upkeep-spec : {M : Type 1} → statement M
 filed-upkeep-spec =
-    tie.close (tie.spec returns returns-2 sub-start-quote start-quote-requires returns-3)
+    tie.close (tie.spec returns returns-2 (λ c. search needs) (λ c κs. search needs) returns-3)

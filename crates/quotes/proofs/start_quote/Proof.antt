@@ -5,9 +5,6 @@ use borrow.Author.Needs.{needs}
 use Rattle.quotes.proofs.start_quote.Statement.{statement}
 use Rattle.quotes.proofs.start_quote.Tie as tie
 
-starts-of-requires : tie.Need-starts-of-requires
-starts-of-requires c κs = search needs
-
 returns : tie.Need-returns
 returns c = search start-early
 
@@ -17,16 +14,10 @@ returns-2 c = search start-late
 upkeep-requires : tie.Need-upkeep-requires
 upkeep-requires c κs = (search needs, (search needs, search start-permitted))
 
-cast-t8 : tie.Need-cast-t8
-cast-t8 c = search needs
-
-cast-t9 : tie.Need-cast-t9
-cast-t9 c = search needs
-
 returns-3 : tie.Need-returns-3
 returns-3 c = search start-some
 
 pub start-quote-spec : {M : Type 1} → statement M
 start-quote-spec =
     tie.close
-    (tie.spec starts-of-requires returns returns-2 upkeep-requires cast-t8 cast-t9 returns-3)
+    (tie.spec (λ c κs. search needs) returns returns-2 upkeep-requires (λ c. search needs) (λ c. search needs) returns-3)

@@ -1,4 +1,4 @@
--- `quotes::write` meets its contract: the costs written so far are the first, the rest is as it was lent, and the memory stays right.
+-- `quotes::write` meets its contract: the costs written so far are the first, the rest is as it was lent, and the memo stays right.
 -- Assumes nothing.
 use Prim.Native.Nat.{_-_, _≤_}
 use mathlib.Core.Path.{_≡_, refl}
@@ -25,35 +25,8 @@ abbrev μ-loop : tie.MeasureT-loop
 loop-holds : tie.Need-loop-holds Inv-loop μ-loop
 loop-holds c = (search needs, (refl, (refl, (search list-start, search needs))))
 
-mul-query-cost : tie.Need-mul-query-cost Inv-loop μ-loop
-mul-query-cost c = search needs
-
-shared-slice-read-query-cost : tie.Need-shared-slice-read-query-cost Inv-loop μ-loop
-shared-slice-read-query-cost c = search needs
-
-query-cost-requires : tie.Need-query-cost-requires Inv-loop μ-loop
-query-cost-requires c κs = search needs
-
-mul-costs : tie.Need-mul-costs Inv-loop μ-loop
-mul-costs c = search needs
-
-slice-write-costs : tie.Need-slice-write-costs Inv-loop μ-loop
-slice-write-costs c = search needs
-
-add-k : tie.Need-add-k Inv-loop μ-loop
-add-k c = search needs
-
-loop-less : tie.Need-loop-less Inv-loop μ-loop
-loop-less c = search needs
-
 loop-again : tie.Need-loop-again Inv-loop μ-loop
 loop-again c = (search needs, (search (needs, length-set), (search needs, (search costs-next, search needs))))
-
-same-length : tie.Need-same-length Inv-loop μ-loop
-same-length c = search needs
-
-same-length-2 : tie.Need-same-length-2 Inv-loop μ-loop
-same-length-2 c = search needs
 
 returns : tie.Need-returns Inv-loop μ-loop
 returns c = search costs-ended
@@ -65,14 +38,14 @@ write-spec =
     Inv-loop
     μ-loop
     loop-holds
-    mul-query-cost
-    shared-slice-read-query-cost
-    query-cost-requires
-    mul-costs
-    slice-write-costs
-    add-k
-    loop-less
+    (λ c. search needs)
+    (λ c. search needs)
+    (λ c κs. search needs)
+    (λ c. search needs)
+    (λ c. search needs)
+    (λ c. search needs)
+    (λ c. search needs)
     loop-again
-    same-length
-    same-length-2
+    (λ c. search needs)
+    (λ c. search needs)
     returns)

@@ -32,10 +32,10 @@ use Rattle.relaxation.proofs.+choose+choose_with.{statement}
 use Rattle.relaxation.proofs.+choose+choose_with.Tie.{close}
 
 abbrev μ-choose : Measures 4 choose-kinds.ps ℕ
-μ-choose κs a = 2 * a .1 .1 .1 .1 .1 .0 + 1
+μ-choose κs a = 2 * a .1 .1 .1 .1 .0 + 1
 
 abbrev μ-choose-with : Measures 4 choose-with-kinds.ps ℕ
-μ-choose-with κs a = 2 * a .1 .1 .1 .1 .1 .0 + 2
+μ-choose-with κs a = 2 * a .1 .1 .1 .1 .0 + 2
 
 abbrev choose-at : ℕ → In 4 choose-kinds.ps
 choose-at t = and 4 choose-kinds.ps (is 4 choose-kinds.ps μ-choose t) choose.Pre
@@ -73,12 +73,12 @@ choose-with-claims t = (
 )
 
 abbrev choose-Inv-loop : choose-lts.InvT-loop
-choose-Inv-loop words l tables left t k y memo₀ low₀ i₀ memo low i =
-    (i ≤ k) × (low .value .0 ≤ low₀ .value .0) × Floor (problemOf words) (priceIn tables) t (has (y .out)) i (low .value .0)
+choose-Inv-loop words l tables left k y memo₀ low₀ i₀ memo low i =
+    (i ≤ k) × (low .value .0 ≤ low₀ .value .0) × Floor (problemOf words) (priceIn tables) (y .week) (has (y .out)) i (low .value .0)
     × Right (problemOf words) memo × Others memo₀ memo × (length memo ≡ length memo₀)
 
 abbrev choose-μ-loop : choose-lts.MeasureT-loop
-choose-μ-loop words l tables left t k y memo₀ low₀ i₀ memo low i = k - i
+choose-μ-loop words l tables left k y memo₀ low₀ i₀ memo low i = k - i
 
 choose-better-requires : (t : ℕ) → choose-lts.Need-better-requires (choose-claims t) (choose-at t) choose.Post choose-Inv-loop choose-μ-loop
 choose-better-requires t c κs = search needs

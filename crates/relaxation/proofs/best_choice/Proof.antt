@@ -6,20 +6,8 @@ use borrow.Author.Needs.{needs}
 use Rattle.relaxation.proofs.best_choice.Statement.{statement}
 use Rattle.relaxation.proofs.best_choice.Tie as tie
 
-full-least-requires : tie.Need-full-least-requires
-full-least-requires c κs = search needs
-
-same-length : tie.Need-same-length
-same-length c = search needs
-
 returns : tie.Need-returns
 returns c = (search value-plain, search needs)
-
-choice-from-requires : tie.Need-choice-from-requires
-choice-from-requires c κs = search needs
-
-same-length-2 : tie.Need-same-length-2
-same-length-2 c = search needs
 
 returns-2 : tie.Need-returns-2
 returns-2 c = (search needs, (search needs, search others-trans))
@@ -27,4 +15,4 @@ returns-2 c = (search needs, (search needs, search others-trans))
 pub best-choice-spec : {M : Type 1} → statement M
 best-choice-spec =
     tie.close
-    (tie.spec full-least-requires same-length returns choice-from-requires same-length-2 returns-2)
+    (tie.spec (λ c κs. search needs) (λ c. search needs) returns (λ c κs. search needs) (λ c. search needs) returns-2)

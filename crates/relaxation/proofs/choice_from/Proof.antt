@@ -6,17 +6,11 @@ use borrow.Author.Needs.{needs}
 use Rattle.relaxation.proofs.choice_from.Statement.{statement}
 use Rattle.relaxation.proofs.choice_from.Tie as tie
 
-prices-left-requires : tie.Need-prices-left-requires
-prices-left-requires c κs = search needs
-
 root-requires : tie.Need-root-requires
 root-requires c κs = search beginning-of
 
 choose-any-requires : tie.Need-choose-any-requires
 choose-any-requires c κs = search choosing-start
-
-same-length : tie.Need-same-length
-same-length c = search needs
 
 returns : tie.Need-returns
 returns c = (search value-chosen, search needs)
@@ -25,8 +19,8 @@ pub choice-from-spec : {M : Type 1} → statement M
 choice-from-spec =
     tie.close
     (tie.spec
-    prices-left-requires
+    (λ c κs. search needs)
     root-requires
     choose-any-requires
-    same-length
+    (λ c. search needs)
     returns)

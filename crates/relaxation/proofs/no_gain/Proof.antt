@@ -5,11 +5,8 @@ use borrow.Author.Needs.{needs}
 use Rattle.relaxation.proofs.no_gain.Statement.{statement}
 use Rattle.relaxation.proofs.no_gain.Tie as tie
 
-plus-requires : tie.Need-plus-requires
-plus-requires c κs = search needs
-
 returns : tie.Need-returns
 returns c = search gain-none
 
 pub no-gain-spec : {M : Type 1} → statement M
-no-gain-spec = tie.close (tie.spec plus-requires returns)
+no-gain-spec = tie.close (tie.spec (λ c κs. search needs) returns)

@@ -5,14 +5,14 @@ use mathlib.Core.Path.{_≡_, refl}
 use lib.ListN.{length}
 use Rattle.sums.specs.NumSet.{has}
 use Rattle.tables.specs.Tables.{priceIn}
-use Rattle.relaxation.specs.Choosing.{Left}
+use Rattle.relaxation.specs.Choosing.{PricesLeft}
 use Rattle.relaxation.proofs.LeftLaws.{left-start, left-fits, left-next, left-ended}
 use borrow.Author.Needs.{needs}
 use Rattle.relaxation.proofs.prices_left.Statement.{statement}
 use Rattle.relaxation.proofs.prices_left.Tie as tie
 
 abbrev Inv-loop : tie.InvT-loop
-Inv-loop tables units t out table₀ i₀ table i = (i ≤ units) × (length table ≡ 17) × Left (priceIn tables) t (has out) i table
+Inv-loop tables units t out table₀ i₀ table i = (i ≤ units) × (length table ≡ 17) × PricesLeft (priceIn tables) t (has out) i table
 
 abbrev μ-loop : tie.MeasureT-loop
 μ-loop tables units t out table₀ i₀ table i = units - i
@@ -20,29 +20,8 @@ abbrev μ-loop : tie.MeasureT-loop
 loop-holds : tie.Need-loop-holds Inv-loop μ-loop
 loop-holds c = (search needs, refl, search left-start)
 
-mul-price-added : tie.Need-mul-price-added Inv-loop μ-loop
-mul-price-added c = search needs
-
-array-read-price-added : tie.Need-array-read-price-added Inv-loop μ-loop
-array-read-price-added c = search needs
-
 price-added-requires : tie.Need-price-added-requires Inv-loop μ-loop
 price-added-requires c κs = (search needs, search needs, search left-fits, search needs)
-
-add-table : tie.Need-add-table Inv-loop μ-loop
-add-table c = search needs
-
-mul-table : tie.Need-mul-table Inv-loop μ-loop
-mul-table c = search needs
-
-array-write-table : tie.Need-array-write-table Inv-loop μ-loop
-array-write-table c = search needs
-
-add-i : tie.Need-add-i Inv-loop μ-loop
-add-i c = search needs
-
-loop-less : tie.Need-loop-less Inv-loop μ-loop
-loop-less c = search needs
 
 loop-again : tie.Need-loop-again Inv-loop μ-loop
 loop-again c = (search needs, search needs, search left-next)
@@ -57,13 +36,13 @@ prices-left-spec =
     Inv-loop
     μ-loop
     loop-holds
-    mul-price-added
-    array-read-price-added
+    (λ c. search needs)
+    (λ c. search needs)
     price-added-requires
-    add-table
-    mul-table
-    array-write-table
-    add-i
-    loop-less
+    (λ c. search needs)
+    (λ c. search needs)
+    (λ c. search needs)
+    (λ c. search needs)
+    (λ c. search needs)
     loop-again
     returns)

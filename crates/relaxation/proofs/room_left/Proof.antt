@@ -2,7 +2,7 @@
 -- Assumes nothing.
 use Prim.Native.Nat.{_+_, _-_, _≤_}
 use Rattle.sums.specs.Sum.{sumTo, countsOne}
-use Rattle.sums.specs.NumSet.{pick, has}
+use Rattle.sums.specs.NumSet.{onlyIn, has}
 use Rattle.model.specs.Words.{problemOf}
 use Rattle.relaxation.proofs.ShutLaws.{room-start, room-next, room-ended}
 use borrow.Author.Needs.{needs}
@@ -10,25 +10,13 @@ use Rattle.relaxation.proofs.room_left.Statement.{statement}
 use Rattle.relaxation.proofs.room_left.Tie as tie
 
 abbrev Inv-loop : tie.InvT-loop
-Inv-loop words out units room₀ i₀ room i = (i ≤ units) × (problemOf words .crews ≤ sumTo i (pick (has out) countsOne) + room)
+Inv-loop words out units room₀ i₀ room i = (i ≤ units) × (problemOf words .crews ≤ sumTo i (onlyIn (has out) countsOne) + room)
 
 abbrev μ-loop : tie.MeasureT-loop
 μ-loop words out units room₀ i₀ room i = units - i
 
-crews-requires : tie.Need-crews-requires Inv-loop μ-loop
-crews-requires c κs = search needs
-
 loop-holds : tie.Need-loop-holds Inv-loop μ-loop
 loop-holds c = (search needs, search room-start)
-
-room-after-requires : tie.Need-room-after-requires Inv-loop μ-loop
-room-after-requires c κs = search needs
-
-add-i : tie.Need-add-i Inv-loop μ-loop
-add-i c = search needs
-
-loop-less : tie.Need-loop-less Inv-loop μ-loop
-loop-less c = search needs
 
 loop-again : tie.Need-loop-again Inv-loop μ-loop
 loop-again c = (search needs, search room-next)
@@ -42,10 +30,10 @@ room-left-spec =
     (tie.spec
     Inv-loop
     μ-loop
-    crews-requires
+    (λ c κs. search needs)
     loop-holds
-    room-after-requires
-    add-i
-    loop-less
+    (λ c κs. search needs)
+    (λ c. search needs)
+    (λ c. search needs)
     loop-again
     returns)

@@ -5,23 +5,8 @@ use borrow.Author.Needs.{needs}
 use Rattle.relaxation.proofs.shut_after.Statement.{statement}
 use Rattle.relaxation.proofs.shut_after.Tie as tie
 
-has-requires : tie.Need-has-requires
-has-requires c κs = search needs
-
-partners-requires : tie.Need-partners-requires
-partners-requires c κs = search needs
-
-shut-more-requires : tie.Need-shut-more-requires
-shut-more-requires c κs = search needs
-
 returns : tie.Need-returns
 returns c = search shut-out
-
-price-requires : tie.Need-price-requires
-price-requires c κs = search needs
-
-with-requires : tie.Need-with-requires
-with-requires c κs = search needs
 
 returns-2 : tie.Need-returns-2
 returns-2 c = search shut-free
@@ -33,11 +18,11 @@ pub shut-after-spec : {M : Type 1} → statement M
 shut-after-spec =
     tie.close
     (tie.spec
-    has-requires
-    partners-requires
-    shut-more-requires
+    (λ c κs. search needs)
+    (λ c κs. search needs)
+    (λ c κs. search needs)
     returns
-    price-requires
-    with-requires
+    (λ c κs. search needs)
+    (λ c κs. search needs)
     returns-2
     returns-3)

@@ -5,14 +5,8 @@ use borrow.Author.Needs.{needs}
 use Rattle.relaxation.proofs.shut_more.Statement.{statement}
 use Rattle.relaxation.proofs.shut_more.Tie as tie
 
-with-requires : tie.Need-with-requires
-with-requires c κs = search needs
-
-union-requires : tie.Need-union-requires
-union-requires c κs = search needs
-
 returns : tie.Need-returns
 returns c = more-is _ _ _ _ _ (c .before .with .ensures) (c .union .ensures)
 
 pub shut-more-spec : {M : Type 1} → statement M
-shut-more-spec = tie.close (tie.spec with-requires union-requires returns)
+shut-more-spec = tie.close (tie.spec (λ c κs. search needs) (λ c κs. search needs) returns)

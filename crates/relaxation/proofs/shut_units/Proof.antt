@@ -4,29 +4,20 @@ use Prim.Native.Nat.{_-_, _≤_}
 use Rattle.sums.specs.NumSet.{has}
 use Rattle.model.specs.Words.{problemOf}
 use Rattle.tables.specs.Tables.{priceIn}
-use Rattle.relaxation.specs.Choosing.{Shut}
+use Rattle.relaxation.specs.Choosing.{NeedlessUnits}
 use Rattle.relaxation.proofs.ShutLaws.{shut-start, shut-ended}
 use borrow.Author.Needs.{needs}
 use Rattle.relaxation.proofs.shut_units.Statement.{statement}
 use Rattle.relaxation.proofs.shut_units.Tie as tie
 
 abbrev Inv-loop : tie.InvT-loop
-Inv-loop words l tables t out units shut₀ i₀ shut i = (i ≤ units) × Shut (problemOf words) (priceIn tables) t (has out) i shut
+Inv-loop words l tables t out units shut₀ i₀ shut i = (i ≤ units) × NeedlessUnits (problemOf words) (priceIn tables) t (has out) i shut
 
 abbrev μ-loop : tie.MeasureT-loop
 μ-loop words l tables t out units shut₀ i₀ shut i = units - i
 
 loop-holds : tie.Need-loop-holds Inv-loop μ-loop
 loop-holds c = (search needs, search shut-start)
-
-shut-after-requires : tie.Need-shut-after-requires Inv-loop μ-loop
-shut-after-requires c κs = search needs
-
-add-i : tie.Need-add-i Inv-loop μ-loop
-add-i c = search needs
-
-loop-less : tie.Need-loop-less Inv-loop μ-loop
-loop-less c = search needs
 
 loop-again : tie.Need-loop-again Inv-loop μ-loop
 loop-again c = (search needs, search needs)
@@ -37,4 +28,4 @@ returns c = search shut-ended
 pub shut-units-spec : {M : Type 1} → statement M
 shut-units-spec =
     tie.close
-    (tie.spec Inv-loop μ-loop loop-holds shut-after-requires add-i loop-less loop-again returns)
+    (tie.spec Inv-loop μ-loop loop-holds (λ c κs. search needs) (λ c. search needs) (λ c. search needs) loop-again returns)

@@ -5,14 +5,8 @@ use borrow.Author.Needs.{needs}
 use Rattle.rules.proofs.state.Statement.{statement}
 use Rattle.rules.proofs.state.Tie as tie
 
-cell-place-requires : tie.Need-cell-place-requires
-cell-place-requires c κs = search needs
-
-shared-slice-read-result : tie.Need-shared-slice-read-result
-shared-slice-read-result c = search needs
-
 returns : tie.Need-returns
 returns c = search cell-read
 
 pub state-spec : {M : Type 1} → statement M
-state-spec = tie.close (tie.spec cell-place-requires shared-slice-read-result returns)
+state-spec = tie.close (tie.spec (λ c κs. search needs) (λ c. search needs) returns)

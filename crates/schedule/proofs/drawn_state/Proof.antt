@@ -6,12 +6,6 @@ use Rattle.schedule.proofs.DrawLaws.{byte-state}
 use Rattle.schedule.proofs.drawn_state.Statement.{statement}
 use Rattle.schedule.proofs.drawn_state.Tie as tie
 
-div-state : tie.Need-div-state
-div-state c = search needs
-
-rem-state : tie.Need-rem-state
-rem-state c = search needs
-
 state-requires : tie.Need-state-requires
 state-requires c κs = (search needs, (search place-week, search place-unit))
 
@@ -19,4 +13,4 @@ returns : tie.Need-returns
 returns c = search byte-state
 
 pub drawn-state-spec : {M : Type 1} → statement M
-drawn-state-spec = tie.close (tie.spec div-state rem-state state-requires returns)
+drawn-state-spec = tie.close (tie.spec (λ c. search needs) (λ c. search needs) state-requires returns)

@@ -5,17 +5,8 @@ use Rattle.schedule.proofs.DrawLaws.{state-maint, state-on, state-off}
 use Rattle.schedule.proofs.state.Statement.{statement}
 use Rattle.schedule.proofs.state.Tie as tie
 
-overhauled-requires : tie.Need-overhauled-requires
-overhauled-requires c κs = search needs
-
 returns : tie.Need-returns
 returns c = search state-maint
-
-number-at-requires : tie.Need-number-at-requires
-number-at-requires c κs = search needs
-
-has-requires : tie.Need-has-requires
-has-requires c κs = search needs
 
 returns-2 : tie.Need-returns-2
 returns-2 c = search state-on
@@ -26,4 +17,4 @@ returns-3 c = search state-off
 pub state-spec : {M : Type 1} → statement M
 state-spec =
     tie.close
-    (tie.spec overhauled-requires returns number-at-requires has-requires returns-2 returns-3)
+    (tie.spec (λ c κs. search needs) returns (λ c κs. search needs) (λ c κs. search needs) returns-2 returns-3)

@@ -22,29 +22,11 @@ Inv-loop words starts runs l grid₀ bytes q₀ grid q =
 abbrev μ-loop : tie.MeasureT-loop
 μ-loop words starts runs l grid₀ bytes q₀ grid q = bytes - q
 
-mul-bytes : tie.Need-mul-bytes Inv-loop μ-loop
-mul-bytes c = search needs
-
 loop-holds : tie.Need-loop-holds Inv-loop μ-loop
 loop-holds c = (search needs, refl, search list-start)
 
-drawn-state-requires : tie.Need-drawn-state-requires Inv-loop μ-loop
-drawn-state-requires c κs = search needs
-
-slice-write-grid : tie.Need-slice-write-grid Inv-loop μ-loop
-slice-write-grid c = search needs
-
-add-q : tie.Need-add-q Inv-loop μ-loop
-add-q c = search needs
-
-loop-less : tie.Need-loop-less Inv-loop μ-loop
-loop-less c = search needs
-
 loop-again : tie.Need-loop-again Inv-loop μ-loop
 loop-again c = (search needs, search (needs, length-set), search list-next)
-
-same-length : tie.Need-same-length Inv-loop μ-loop
-same-length c = search needs
 
 returns : tie.Need-returns Inv-loop μ-loop
 returns c = search bytes-ended
@@ -55,12 +37,12 @@ write-spec =
     (tie.spec
     Inv-loop
     μ-loop
-    mul-bytes
+    (λ c. search needs)
     loop-holds
-    drawn-state-requires
-    slice-write-grid
-    add-q
-    loop-less
+    (λ c κs. search needs)
+    (λ c. search needs)
+    (λ c. search needs)
+    (λ c. search needs)
     loop-again
-    same-length
+    (λ c. search needs)
     returns)

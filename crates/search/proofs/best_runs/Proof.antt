@@ -8,11 +8,8 @@ use Rattle.search.proofs.best_runs.Tie as tie
 runs-requires : tie.Need-runs-requires
 runs-requires c κs = (search needs, search runs-asked)
 
-returns : tie.Need-returns
-returns c = search needs
-
 returns-2 : tie.Need-returns-2
 returns-2 c = search runs-none
 
 pub best-runs-spec : {M : Type 1} → statement M
-best-runs-spec = tie.close (tie.spec runs-requires returns returns-2)
+best-runs-spec = tie.close (tie.spec runs-requires (λ c. search needs) returns-2)

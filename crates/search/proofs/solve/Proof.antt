@@ -5,30 +5,17 @@ use borrow.Author.Needs.{needs}
 use Rattle.search.proofs.solve.Statement.{statement}
 use Rattle.search.proofs.solve.Tie as tie
 
-fresh-requires : tie.Need-fresh-requires
-fresh-requires c κs = search needs
+search-all-requires : tie.Need-search-all-requires
+search-all-requires c κs = search ask-begins
 
-searched-requires : tie.Need-searched-requires
-searched-requires c κs = search ask-begins
+make-reply-requires : tie.Need-make-reply-requires
+make-reply-requires c κs = search ask-replies
 
-reply-of-requires : tie.Need-reply-of-requires
-reply-of-requires c κs = search ask-replies
-
-same-length : tie.Need-same-length
-same-length c = search needs
-
-same-length-2 : tie.Need-same-length-2
-same-length-2 c = search needs
-
--- what was asked stands behind more records than a search enters
+-- what was asked stands behind more records than a search enters from the end: it looks from the record of `searched` on
 returns : tie.Need-returns
-returns c =
-    let due = c .before .before .before .before .before .before .before .before .before .before .before .before .before .before .before .before .pre in
-    let fresh = c .before .before .before .before .before .before .before .before .before .before .before .fresh .ensures in
-    let searched = c .before .before .before .before .before .before .before .before .searched .ensures in
-    (search (ask-answered, due, fresh, searched .0, searched .1 .0, c .before .before .reply-of .ensures), search needs)
+returns c = (search (ask-answered, c .before .before .before .before .before .before .before .before), search needs)
 
 pub solve-spec : {M : Type 1} → statement M
 solve-spec =
     tie.close
-    (tie.spec fresh-requires searched-requires reply-of-requires same-length same-length-2 returns)
+    (tie.spec (λ c κs. search needs) search-all-requires make-reply-requires (λ c. search needs) (λ c. search needs) returns)

@@ -5,12 +5,6 @@ use Rattle.sets.proofs.BitLaws.{shl-some, below-has}
 use Rattle.sets.proofs.below.Statement.{statement}
 use Rattle.sets.proofs.below.Tie as tie
 
-cast-result : tie.Need-cast-result
-cast-result c = search needs
-
-shl-result : tie.Need-shl-result
-shl-result c = search needs
-
 sub-result : tie.Need-sub-result
 sub-result c = search (needs, shl-some)
 
@@ -18,4 +12,4 @@ returns : tie.Need-returns
 returns c = search below-has
 
 pub below-spec : {M : Type 1} → statement M
-below-spec = tie.close (tie.spec cast-result shl-result sub-result returns)
+below-spec = tie.close (tie.spec (λ c. search needs) (λ c. search needs) sub-result returns)

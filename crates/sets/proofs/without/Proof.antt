@@ -5,14 +5,8 @@ use Rattle.sets.proofs.BitLaws.{without-has}
 use Rattle.sets.proofs.without.Statement.{statement}
 use Rattle.sets.proofs.without.Tie as tie
 
-cast-unit : tie.Need-cast-unit
-cast-unit c = search needs
-
-shl-unit : tie.Need-shl-unit
-shl-unit c = search needs
-
 returns : tie.Need-returns
 returns c = search without-has
 
 pub without-spec : {M : Type 1} → statement M
-without-spec = tie.close (tie.spec cast-unit shl-unit returns)
+without-spec = tie.close (tie.spec (λ c. search needs) (λ c. search needs) returns)

@@ -11,18 +11,9 @@ returns : tie.Need-returns
 unfolding indexedAt
 returns c = rw (le-ltb _ _ (c .if1 .taken))
 
-cast-e : tie.Need-cast-e
-cast-e c = search needs
-
-mul-e : tie.Need-mul-e
-mul-e c = search needs
-
-array-write-e : tie.Need-array-write-e
-array-write-e c = search needs
-
 returns-2 : tie.Need-returns-2
 unfolding indexedAt
 returns-2 c = rw (lt-ltb _ _ (c .if1 .left))
 
 pub indexed-spec : {M : Type 1} → statement M
-indexed-spec = tie.close (tie.spec returns cast-e mul-e array-write-e returns-2)
+indexed-spec = tie.close (tie.spec returns (λ c. search needs) (λ c. search needs) (λ c. search needs) returns-2)

@@ -5,25 +5,10 @@ use borrow.Author.Needs.{needs}
 use Rattle.tables.proofs.price.Statement.{statement}
 use Rattle.tables.proofs.price.Tie as tie
 
-mul-amount : tie.Need-mul-amount
-mul-amount c = search needs
-
-add-amount : tie.Need-add-amount
-add-amount c = search needs
-
-mul-amount-2 : tie.Need-mul-amount-2
-mul-amount-2 c = search needs
-
-element-copy-out-amount : tie.Need-element-copy-out-amount
-element-copy-out-amount c = search needs
-
-amount-requires : tie.Need-amount-requires
-amount-requires c κs = search needs
-
 returns : tie.Need-returns
 returns c = (search price-at, search price-small)
 
 pub price-spec : {M : Type 1} → statement M
 price-spec =
     tie.close
-    (tie.spec mul-amount add-amount mul-amount-2 element-copy-out-amount amount-requires returns)
+    (tie.spec (λ c. search needs) (λ c. search needs) (λ c. search needs) (λ c. search needs) (λ c κs. search needs) returns)

@@ -5,15 +5,9 @@ use borrow.Author.Needs.{needs}
 use Rattle.tables.proofs.total.Statement.{statement}
 use Rattle.tables.proofs.total.Tie as tie
 
-element-copy-out-amount : tie.Need-element-copy-out-amount
-element-copy-out-amount c = search needs
-
-amount-requires : tie.Need-amount-requires
-amount-requires c κs = search needs
-
 returns : tie.Need-returns
 unfolding totalIn
 returns c = search needs
 
 pub total-spec : {M : Type 1} → statement M
-total-spec = tie.close (tie.spec element-copy-out-amount amount-requires returns)
+total-spec = tie.close (tie.spec (λ c. search needs) (λ c κs. search needs) returns)

@@ -5,12 +5,9 @@ use Rattle.model.specs.Words.{kindOf}
 use Rattle.words.proofs.kind_of.Statement.{statement}
 use Rattle.words.proofs.kind_of.Tie as tie
 
-widen-requires : tie.Need-widen-requires
-widen-requires c κs = search needs
-
 returns : tie.Need-returns
 unfolding kindOf
 returns c = search needs
 
 pub kind-of-spec : {M : Type 1} → statement M
-kind-of-spec = tie.close (tie.spec widen-requires returns)
+kind-of-spec = tie.close (tie.spec (λ c κs. search needs) returns)

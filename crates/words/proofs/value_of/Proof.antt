@@ -5,12 +5,9 @@ use Rattle.model.specs.Words.{valueOf}
 use Rattle.words.proofs.value_of.Statement.{statement}
 use Rattle.words.proofs.value_of.Tie as tie
 
-widen-requires : tie.Need-widen-requires
-widen-requires c κs = search needs
-
 returns : tie.Need-returns
 unfolding valueOf
 returns c = search needs
 
 pub value-of-spec : {M : Type 1} → statement M
-value-of-spec = tie.close (tie.spec widen-requires returns)
+value-of-spec = tie.close (tie.spec (λ c κs. search needs) returns)

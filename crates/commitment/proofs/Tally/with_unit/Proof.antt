@@ -5,17 +5,8 @@ use borrow.Author.Needs.{needs}
 use Rattle.commitment.proofs.Tally.with_unit.Statement.{statement}
 use Rattle.commitment.proofs.Tally.with_unit.Tie as tie
 
-has-requires : tie.Need-has-requires
-has-requires c κs = search needs
-
 returns : tie.Need-returns
 returns c = (search needs, search joined-same)
-
-maint-cost-requires : tie.Need-maint-cost-requires
-maint-cost-requires c κs = search needs
-
-with-requires : tie.Need-with-requires
-with-requires c κs = search needs
 
 add-t9 : tie.Need-add-t9
 add-t9 c = search (needs, count-fits)
@@ -30,10 +21,10 @@ pub with-unit-spec : {M : Type 1} → statement M
 with-unit-spec =
     tie.close
     (tie.spec
-    has-requires
+    (λ c κs. search needs)
     returns
-    maint-cost-requires
-    with-requires
+    (λ c κs. search needs)
+    (λ c κs. search needs)
     add-t9
     plus-requires
     returns-2)

@@ -5,20 +5,11 @@ use borrow.Author.Needs.{needs}
 use Rattle.prices.proofs.momentum.in_overhaul.Statement.{statement}
 use Rattle.prices.proofs.momentum.in_overhaul.Tie as tie
 
-add-if1 : tie.Need-add-if1
-add-if1 c = search needs
-
 returns : tie.Need-returns
 returns c = search span-before
-
-add-result : tie.Need-add-result
-add-result c = search needs
-
-add-result-2 : tie.Need-add-result-2
-add-result-2 c = search needs
 
 returns-2 : tie.Need-returns-2
 returns-2 c = search span-after
 
 pub in-overhaul-spec : {M : Type 1} → statement M
-in-overhaul-spec = tie.close (tie.spec add-if1 returns add-result add-result-2 returns-2)
+in-overhaul-spec = tie.close (tie.spec (λ c. search needs) returns (λ c. search needs) (λ c. search needs) returns-2)

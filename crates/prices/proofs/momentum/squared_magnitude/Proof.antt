@@ -5,9 +5,6 @@ use borrow.Author.Needs.{needs}
 use Rattle.prices.proofs.momentum.squared_magnitude.Statement.{statement}
 use Rattle.prices.proofs.momentum.squared_magnitude.Tie as tie
 
-magnitude-requires : tie.Need-magnitude-requires
-magnitude-requires c κs = search needs
-
 mul-result : tie.Need-mul-result
 mul-result c = search square-fits
 
@@ -15,4 +12,4 @@ returns : tie.Need-returns
 returns c = search square-most
 
 pub squared-magnitude-spec : {M : Type 1} → statement M
-squared-magnitude-spec = tie.close (tie.spec magnitude-requires mul-result returns)
+squared-magnitude-spec = tie.close (tie.spec (λ c κs. search needs) mul-result returns)

@@ -5,17 +5,11 @@ use borrow.Author.Needs.{needs}
 use Rattle.prices.proofs.step.step_of.Statement.{statement}
 use Rattle.prices.proofs.step.step_of.Tie as tie
 
-aim-of-requires : tie.Need-aim-of-requires
-aim-of-requires c κs = search needs
-
 mul-result : tie.Need-mul-result
 mul-result c = search aim-fits
-
-div-result : tie.Need-div-result
-div-result c = search needs
 
 returns : tie.Need-returns
 returns c = search step-most
 
 pub step-of-spec : {M : Type 1} → statement M
-step-of-spec = tie.close (tie.spec aim-of-requires mul-result div-result returns)
+step-of-spec = tie.close (tie.spec (λ c κs. search needs) mul-result (λ c. search needs) returns)

@@ -5,15 +5,9 @@ use borrow.Author.Needs.{needs}
 use Rattle.prices.proofs.wants.wanted_out.Statement.{statement}
 use Rattle.prices.proofs.wants.wanted_out.Tie as tie
 
-mul-result : tie.Need-mul-result
-mul-result c = search needs
-
-element-copy-out-result : tie.Need-element-copy-out-result
-element-copy-out-result c = search needs
-
 returns : tie.Need-returns
 unfolding outWanted
 returns c = search needs
 
 pub wanted-out-spec : {M : Type 1} → statement M
-wanted-out-spec = tie.close (tie.spec mul-result element-copy-out-result returns)
+wanted-out-spec = tie.close (tie.spec (λ c. search needs) (λ c. search needs) returns)

@@ -1,4 +1,4 @@
--- `prices::wants::weeks_value` meets its contract: the sum so far has less than 2^28 for each week, and the memory is right.
+-- `prices::wants::weeks_value` meets its contract: the sum so far has less than 2^28 for each week, and the memo is right.
 -- Assumes nothing.
 use Prim.Native.Nat.{_-_, _*_, _≤_}
 use mathlib.Core.Path.{_≡_, refl}
@@ -25,35 +25,11 @@ loop-holds c = (search needs, search needs, search needs, search needs, search o
 best-choice-requires : tie.Need-best-choice-requires Inv-loop μ-loop
 best-choice-requires c κs = (search priced-week, search needs)
 
-same-length : tie.Need-same-length Inv-loop μ-loop
-same-length c = search needs
-
 returns : tie.Need-returns Inv-loop μ-loop
 returns c = (search needs, (search needs, search others-trans))
 
-mul-wants : tie.Need-mul-wants Inv-loop μ-loop
-mul-wants c = search needs
-
-element-write-wants : tie.Need-element-write-wants Inv-loop μ-loop
-element-write-wants c = search needs
-
-plus-requires : tie.Need-plus-requires Inv-loop μ-loop
-plus-requires c κs = search needs
-
-add-t : tie.Need-add-t Inv-loop μ-loop
-add-t c = search needs
-
-loop-less : tie.Need-loop-less Inv-loop μ-loop
-loop-less c = search needs
-
 loop-again : tie.Need-loop-again Inv-loop μ-loop
 loop-again c = (search needs, search needs, search needs, search needs, search others-trans, search needs)
-
-same-length-2 : tie.Need-same-length-2 Inv-loop μ-loop
-same-length-2 c = search needs
-
-returns-2 : tie.Need-returns-2 Inv-loop μ-loop
-returns-2 c = search needs
 
 pub weeks-value-spec : {M : Type 1} → statement M
 weeks-value-spec =
@@ -63,13 +39,13 @@ weeks-value-spec =
     μ-loop
     loop-holds
     best-choice-requires
-    same-length
+    (λ c. search needs)
     returns
-    mul-wants
-    element-write-wants
-    plus-requires
-    add-t
-    loop-less
+    (λ c. search needs)
+    (λ c. search needs)
+    (λ c κs. search needs)
+    (λ c. search needs)
+    (λ c. search needs)
     loop-again
-    same-length-2
-    returns-2)
+    (λ c. search needs)
+    (λ c. search needs))

@@ -1,0 +1,2 @@
+-- the places of a block's parts, and its size
+pub mod Shape

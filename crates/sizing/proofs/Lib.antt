@@ -1,0 +1,2 @@
+-- the figure step by step, and the answer
+pub mod SizingLaws
