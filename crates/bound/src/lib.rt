@@ -48,8 +48,7 @@ pub fn placed_rows(
     starts: [u8; 16],
     j: usize,
 ) -> [u64; 52]
-    requires { ⌜ Filed (now words) l ⌝ }
-    requires { ⌜ Due (problemOf (now words)) (now rows) (entry starts) j ⌝ }
+    requires { ⌜ Filed (now words) l × Due (problemOf (now words)) (now rows) (entry starts) j ⌝ }
     ensures { λ r. ⌜ Rows (problemOf (now (words .entry))) (placed (problemOf (now (words .entry))) (entry starts) (j + 1)) r ⌝ }
 {
     let first = starts[j] as usize - 1;
@@ -226,8 +225,7 @@ pub fn cost(words: &[u32], l: Layout, rows: &[u64; 52], starts: [u8; 16], memo: 
 
 // The cheapest run of week t with the units of a row word out, 0 where there is none.
 fn run_of(words: &[u32], l: Layout, t: usize, word: u64) -> u32
-    requires { ⌜ Filed (now words) l ⌝ }
-    requires { ⌜ t < l .weeks ⌝ }
+    requires { ⌜ Filed (now words) l × (t < l .weeks) ⌝ }
     ensures { λ r. ⌜ r ≡ runOf (cheapestRun (problemOf (now (words .entry))) t (has (word % SETS))) ⌝ }
 {
     let found = commitment::cheapest(words, l, t, (word % ROW_SETS) as u32);
@@ -239,8 +237,7 @@ fn run_of(words: &[u32], l: Layout, t: usize, word: u64) -> u32
 
 // The rows with all units placed at these starts.
 fn all_rows(words: &[u32], l: Layout, starts: [u8; 16]) -> [u64; 52]
-    requires { ⌜ Filed (now words) l ⌝ }
-    requires { ⌜ Permits (problemOf (now words)) (entry starts) ⌝ }
+    requires { ⌜ Filed (now words) l × Permits (problemOf (now words)) (entry starts) ⌝ }
     ensures { λ r. ⌜ Rows (problemOf (now (words .entry))) (placed (problemOf (now (words .entry))) (entry starts) (l .units)) r ⌝ }
 {
     let units = l.units;
@@ -254,8 +251,7 @@ fn all_rows(words: &[u32], l: Layout, starts: [u8; 16]) -> [u64; 52]
 
 // The cheapest run of each week, with the units out that these starts say.
 pub fn runs(words: &[u32], l: Layout, starts: [u8; 16]) -> [u32; 52]
-    requires { ⌜ Filed (now words) l ⌝ }
-    requires { ⌜ Permits (problemOf (now words)) (entry starts) ⌝ }
+    requires { ⌜ Filed (now words) l × Permits (problemOf (now words)) (entry starts) ⌝ }
     ensures { λ r. ⌜ RunsOf (problemOf (now (words .entry))) (entry starts) r ⌝ }
 {
     let weeks = l.weeks;

@@ -38,9 +38,7 @@ fn packed(y: Tally) -> u64
 
 // The word of week t with unit i out as well.
 pub fn word_with(words: &[u32], l: Layout, t: usize, i: usize, word: u64) -> u64
-    requires { ⌜ Filed (now words) l ⌝ }
-    requires { ⌜ (t < l .weeks) × (i < l .units) ⌝ }
-    requires { ⌜ Tallies (problemOf (now words)) t (tallyOf word) ⌝ }
+    requires { ⌜ Filed (now words) l × (t < l .weeks) × (i < l .units) × Tallies (problemOf (now words)) t (tallyOf word) ⌝ }
     ensures { λ r. ⌜ Tallies (problemOf (now (words .entry))) t (tallyOf r) × RowJoins word i r ⌝ }
 {
     let y = tally(word);

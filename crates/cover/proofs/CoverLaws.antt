@@ -5,7 +5,7 @@ use mathlib.Core.Path.{_≡_, refl, sym, _∙_, ap, subst}
 use mathlib.Core.Bool.{Bool, true, false, _&&_}
 use mathlib.Core.Logic.{_⊎_, inl, inr}
 use native.Mathlib.Nat.{le-refl, le-trans}
-use native.Mathlib.Decide.{decLt, ℕ-discrete}
+use native.Mathlib.Decide.{ℕ-discrete}
 use native.Mathlib.Omega.{arith}
 use lib.Dec.{ltb, eqb}
 use borrow.Author.Tests.{ltb-true, ltb-false, le-ltb, eq-eqb, ne-eqb}
@@ -238,19 +238,6 @@ least-found free gives weighs k need r best c e = record {
         ⊎ Reached free gives weighs k need 0 (coverTo free gives weighs k need 0 best) → Reached free gives weighs k need 0 r
     by l (inl q) = subst (Reached free gives weighs k need 0) (sym (e ∙ q)) (c .reached (omega (arith, l, e, q)))
     by l (inr a) = subst (Reached free gives weighs k need 0) (sym e) a
-
-least-le : (free : NumSet) (gives weighs : ℕ → ℕ) (k need r s : ℕ) → LeastCover free gives weighs k need r → Candidate free gives weighs k need s → r ≤ s
-least-le free gives weighs k need r s l c = by (decLt s UNCOVERED)
-  where
-    by : Dec (s < UNCOVERED) → r ≤ s
-    by (yes h) = let a = c .reached h in omega (arith, l .least (a .set) (a .covers), a .weight)
-    by (no h) = omega (arith, l .candidate .most)
-
--- there is one least weight
-pub least-unique : (free : NumSet) (gives weighs : ℕ → ℕ) (k need r s : ℕ) → LeastCover free gives weighs k need r
-    → LeastCover free gives weighs k need s → r ≡ s
-least-unique free gives weighs k need r s a b =
-    omega (arith, least-le free gives weighs k need r s a (b .candidate), least-le free gives weighs k need s r b (a .candidate))
 
 -- ---- tables that agree below k
 

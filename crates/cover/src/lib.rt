@@ -41,8 +41,7 @@ fn ratio(a: u64, b: u64) -> u64
 // Unit i where it is lighter for a kilogram than the unit found so far, else that one. 16 stands for none; units in `used` and units that give
 // nothing do not count.
 fn lighter(caps: &[u64; 16], weights: &[u64; 16], used: u32, i: usize, found: usize) -> usize
-    requires { ⌜ Caps (now caps) × Weights (now weights) ⌝ }
-    requires { ⌜ (i < 16) × (found ≤ 16) ⌝ }
+    requires { ⌜ Caps (now caps) × Weights (now weights) × (i < 16) × (found ≤ 16) ⌝ }
     ensures { λ r. ⌜ r ≤ 16 ⌝ }
 {
     if sets::has(used, i) {
@@ -112,8 +111,7 @@ fn spared_part(table: &[u64; 16], out: u32, guess: u32, i: usize) -> u64
 
 // What the units of a guess that are not out give together, of those below u.
 fn guess_output(caps: &[u64; 16], u: usize, out: u32, guess: u32) -> Kilo
-    requires { ⌜ Caps (now caps) ⌝ }
-    requires { ⌜ u ≤ 16 ⌝ }
+    requires { ⌜ Caps (now caps) × (u ≤ 16) ⌝ }
     ensures { λ r. ⌜ r .0 ≡ sumTo u (onlyIn (spared out guess) (entry (now (caps .entry)))) ⌝ }
 {
     let mut sum = Kilo(0);
@@ -125,8 +123,7 @@ fn guess_output(caps: &[u64; 16], u: usize, out: u32, guess: u32) -> Kilo
 
 // What they weigh together.
 fn guess_weight(weights: &[u64; 16], u: usize, out: u32, guess: u32) -> u64
-    requires { ⌜ Weights (now weights) ⌝ }
-    requires { ⌜ u ≤ 16 ⌝ }
+    requires { ⌜ Weights (now weights) × (u ≤ 16) ⌝ }
     ensures { λ r. ⌜ r ≡ sumTo u (onlyIn (spared out guess) (entry (now (weights .entry)))) ⌝ }
 {
     let mut sum = 0;
@@ -145,8 +142,7 @@ fn guess_weight_if_cover(
     guess: u32,
     need: Kilo,
 ) -> u64
-    requires { ⌜ Caps (now caps) × Weights (now weights) ⌝ }
-    requires { ⌜ u ≤ 16 ⌝ }
+    requires { ⌜ Caps (now caps) × Weights (now weights) × (u ≤ 16) ⌝ }
     ensures { λ r. ⌜ Candidate (complement (has out)) (entry (now (caps .entry))) (entry (now (weights .entry))) u (need .0) r ⌝ }
 {
     let given = guess_output(caps, u, out, guess);
@@ -169,8 +165,7 @@ fn free_capacity(caps: &[u64; 16], out: u32, i: usize) -> Kilo
 
 // What unit i yields above its weight where it is not out, at the rate for a kilogram.
 fn free_surplus(caps: &[u64; 16], weights: &[u64; 16], rate: u64, out: u32, i: usize) -> u64
-    requires { ⌜ Caps (now caps) ⌝ }
-    requires { ⌜ (rate ≤ MOST_WEIGHT) × (i < 16) ⌝ }
+    requires { ⌜ Caps (now caps) × (rate ≤ MOST_WEIGHT) × (i < 16) ⌝ }
     ensures { λ r. ⌜ r ≡ onlyIn (complement (has out)) (surplus rate (entry (now (caps .entry))) (entry (now (weights .entry)))) i ⌝ }
 {
     if sets::has(out, i) {
@@ -188,8 +183,8 @@ fn put_unit(
     k: usize,
     cuts: &mut [u64; CUTS],
 )
-    requires { ⌜ Caps (now caps) × (rate ≤ MOST_WEIGHT) × (k < 16) ⌝ }
-    requires { ⌜ Cuts (complement (has out)) (entry (now caps)) (surplus rate (entry (now caps)) (entry (now weights))) rate k (now cuts) ⌝ }
+    requires { ⌜ Caps (now caps) × (rate ≤ MOST_WEIGHT) × (k < 16)
+        × Cuts (complement (has out)) (entry (now caps)) (surplus rate (entry (now caps)) (entry (now weights))) rate k (now cuts) ⌝ }
     ensures { λ r. ⌜ Cuts (complement (has out)) (entry (now (caps .entry))) (surplus rate (entry (now (caps .entry))) (entry (now (weights .entry)))) rate (k + 1)
         (now (cuts .exit)) ⌝ }
 {
@@ -215,8 +210,7 @@ fn cuts_of(caps: &[u64; 16], weights: &[u64; 16], rate: u64, out: u32) -> [u64; 
 // Whether no cover from here can get below the best. Charge the rate for every kilogram still needed: free units repay at most the gain, so the rest
 // of a cover weighs at least the rate times the need, less the gain.
 fn hopeless(rate: u64, gain: u64, need: Kilo, weight: u64, best: u64) -> bool
-    requires { ⌜ (rate ≤ MOST_WEIGHT) × (gain ≤ MOST_GAIN) × (need .0 ≤ 16000000) ⌝ }
-    requires { ⌜ (weight < best) × (best ≤ UNCOVERED) ⌝ }
+    requires { ⌜ (rate ≤ MOST_WEIGHT) × (gain ≤ MOST_GAIN) × (need .0 ≤ 16000000) × (weight < best) × (best ≤ UNCOVERED) ⌝ }
     ensures { λ r. ⌜ r ≡ leb (best + gain) (weight + rate * need .0) ⌝ }
 {
     best + gain <= weight + rate * need.0
@@ -241,8 +235,7 @@ fn walk(
     weight: u64,
     best: u64,
 ) -> u64
-    requires { ⌜ CoverTables out (now caps) (now weights) (now cuts) ⌝ }
-    requires { ⌜ (k ≤ 16) × (best ≤ UNCOVERED) ⌝ }
+    requires { ⌜ CoverTables out (now caps) (now weights) (now cuts) × (k ≤ 16) × (best ≤ UNCOVERED) ⌝ }
     ensures { λ r. ⌜ (r ≡ coverTo (complement (has out)) (entry (now (caps .entry))) (entry (now (weights .entry))) k (need .0) weight best)
         × (r ≤ best) ⌝ }
 {
@@ -279,8 +272,7 @@ fn walk(
 
 // The least weight of a cover with units below u that are not out.
 pub fn least(caps: &[u64; 16], weights: &[u64; 16], u: usize, out: u32, need: Kilo) -> u64
-    requires { ⌜ Caps (now caps) × Weights (now weights) ⌝ }
-    requires { ⌜ u ≤ 16 ⌝ }
+    requires { ⌜ Caps (now caps) × Weights (now weights) × (u ≤ 16) ⌝ }
     ensures { λ r. ⌜ LeastCover (complement (has out)) (entry (now (caps .entry))) (entry (now (weights .entry))) u (need .0) r ⌝ }
 {
     let advice = advise(caps, weights, u, out, need);

@@ -127,8 +127,8 @@ fn cost_above(
     start: usize,
     least: Euro,
 ) -> u32
-    requires { ⌜ StartAt (now words) l i start × Priced (problemOf (now words)) (now tables) ⌝ }
-    requires { ⌜ LeastFrom (problemOf (now words)) (priceIn (now tables)) i (least .0) ⌝ }
+    requires { ⌜ StartAt (now words) l i start × Priced (problemOf (now words)) (now tables)
+        × LeastFrom (problemOf (now words)) (priceIn (now tables)) i (least .0) ⌝ }
     ensures { λ r. ⌜ least .0 + r ≡ priced (problemOf (now (words .entry))) (priceIn (now (tables .entry))) i start ⌝ }
 {
     let cost = priced_cost(words, l, tables, i, start);

@@ -155,7 +155,7 @@ fn choose_starts(
 // ---- weeks
 
 // The value of all weeks, no bound where one has no run; the units that each wants out are written.
-fn weeks_value(
+fn choose_weeks(
     words: &[u32],
     l: Layout,
     tables: &[u32; TABLES],
@@ -198,7 +198,7 @@ pub fn solve_relaxation(
     if NO_BOUND <= units.0 {
         return Euro(NO_BOUND);
     }
-    let weeks = weeks_value(words, l, tables, wants, memo);
+    let weeks = choose_weeks(words, l, tables, wants, memo);
     if NO_BOUND <= weeks.0 {
         return Euro(NO_BOUND);
     }

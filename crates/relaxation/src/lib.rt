@@ -111,8 +111,7 @@ fn shut_after(
     i: usize,
     shut: u32,
 ) -> u32
-    requires { ⌜ WeekAt (now words) l (now tables) t × (i < l .units) ⌝ }
-    requires { ⌜ NeedlessUnits (problemOf (now words)) (priceIn (now tables)) t (has out) i shut ⌝ }
+    requires { ⌜ WeekAt (now words) l (now tables) t × (i < l .units) × NeedlessUnits (problemOf (now words)) (priceIn (now tables)) t (has out) i shut ⌝ }
     ensures { λ r. ⌜ NeedlessUnits (problemOf (now (words .entry))) (priceIn (now (tables .entry))) t (has out) (i + 1) r ⌝ }
 {
     if sets::has(out, i) {
@@ -173,9 +172,8 @@ fn passed_over(left: &[u64; 17], i: usize, y: WeekNode, low: Euro) -> bool
 
 // The set with unit i out as well, at the cost of its cheapest run.
 fn child(tables: &[u32; TABLES], i: usize, y: WeekNode, out: u32, cost: Euro) -> WeekNode
-    requires { ⌜ (y .week < 52) × (i < 16) × (0 < y .room) × (cost .0 ≤ NO_RUN) ⌝ }
-    requires { ⌜ (priceIn (now tables) (y .week) i ≤ y .rest .0) × (y .rest .0 ≤ MOST_WEEK_PRICES) ⌝ }
-    requires { ⌜ Prices (now tables) ⌝ }
+    requires { ⌜ (y .week < 52) × (i < 16) × (0 < y .room) × (cost .0 ≤ NO_RUN) × (priceIn (now tables) (y .week) i ≤ y .rest .0)
+        × (y .rest .0 ≤ MOST_WEEK_PRICES) × Prices (now tables) ⌝ }
     ensures { λ r. ⌜ Child (priceIn (now (tables .entry)) (y .week) i) (partnersIn (now (tables .entry)) i) i y out (cost .0) r ⌝ }
 {
     let week = y.week;
@@ -201,8 +199,8 @@ fn with_unit(
     y: WeekNode,
     memo: &mut [u32],
 ) -> WeekNode
-    requires { ⌜ WeekAt (now words) l (now tables) (y .week) × Right (problemOf (now words)) (now memo) ⌝ }
-    requires { ⌜ NodeKnown (problemOf (now words)) (priceIn (now tables)) y × (i < l .units) × (0 < y .room) × (has (y .shut) i ≡ false) ⌝ }
+    requires { ⌜ WeekAt (now words) l (now tables) (y .week) × Right (problemOf (now words)) (now memo)
+        × NodeKnown (problemOf (now words)) (priceIn (now tables)) y × (i < l .units) × (0 < y .room) × (has (y .shut) i ≡ false) ⌝ }
     ensures answer { λ r. ⌜ WithUnit (problemOf (now (words .entry))) (priceIn (now (tables .entry))) i y r ⌝ }
     ensures right { λ r. ⌜ Right (problemOf (now (words .entry))) (now (memo .exit)) × Others (now (memo .entry)) (now (memo .exit)) ⌝ }
 {
@@ -222,8 +220,7 @@ fn choose_with(
     low: WeekChoice,
     memo: &mut [u32],
 ) -> WeekChoice
-    requires { ⌜ Choosing (now words) l (now tables) (now left) y (now memo) ⌝ }
-    requires { ⌜ (i < l .units) × (0 < y .room) × (low .value .0 ≤ y .value .0) ⌝ }
+    requires { ⌜ Choosing (now words) l (now tables) (now left) y (now memo) × (i < l .units) × (0 < y .room) × (low .value .0 ≤ y .value .0) ⌝ }
     ensures answer { λ r. ⌜ Lowers (problemOf (now (words .entry))) (priceIn (now (tables .entry))) (y .week) (has (y .out)) i (low .value .0) (r .value .0) ⌝ }
     ensures right { λ r. ⌜ Right (problemOf (now (words .entry))) (now (memo .exit)) × Others (now (memo .entry)) (now (memo .exit)) ⌝ }
 {
@@ -320,8 +317,8 @@ fn choice_from(
     cost: Euro,
     memo: &mut [u32],
 ) -> WeekChoice
-    requires { ⌜ WeekAt (now words) l (now tables) t × Right (problemOf (now words)) (now memo) ⌝ }
-    requires { ⌜ (cost .0 ≡ fullLeast (problemOf (now words)) t (has out)) × (cost .0 < NO_RUN) ⌝ }
+    requires { ⌜ WeekAt (now words) l (now tables) t × Right (problemOf (now words)) (now memo) × (cost .0 ≡ fullLeast (problemOf (now words)) t (has out))
+        × (cost .0 < NO_RUN) ⌝ }
     ensures answer { λ r. ⌜ Value (problemOf (now (words .entry))) (priceIn (now (tables .entry))) t (has out) (r .value .0) ⌝ }
     ensures right { λ r. ⌜ Right (problemOf (now (words .entry))) (now (memo .exit)) × Others (now (memo .entry)) (now (memo .exit)) ⌝ }
 {

@@ -43,11 +43,6 @@ unfolding Probes
 probes-start ws l us w memo st d = record { walking = d .walking; fresh = d .fresh; carried = carried-same (problemOf ws) w (st .used) }
 
 module _ (ws : List ℕ) (l : Layout) (us w₀ : List ℕ) (st : State) (w : List ℕ) (s : State) (memo : List ℕ) (h : Probes ws l us w₀ st w s memo) where
-  -- the memo recalls
-  pub probes-recalls : MemoTrue (problemOf ws) (priceIn us) memo
-  unfolding Probes
-  probes-recalls = h .walking .recalls
-
   -- another walk
   module _ (c : Euro) (left : ℕ) (le : c .0 ≤ st .limit .0) (probe : State) (is : probe ≡ renewedAt s c left) where
     -- it may begin

@@ -27,7 +27,7 @@ loop-holds : tie.Need-loop-holds Inv-loop μ-loop
 loop-holds c = (search needs, search due-ends, search rows-start)
 
 word-with-requires : tie.Need-word-with-requires Inv-loop μ-loop
-word-with-requires c κs = (search needs, ((search needs, search due-unit), search due-tally))
+word-with-requires c κs = (search needs, search needs, search due-unit, search due-tally)
 
 loop-again : tie.Need-loop-again Inv-loop μ-loop
 loop-again c = (search needs, search needs, search rows-next)

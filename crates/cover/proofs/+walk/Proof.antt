@@ -54,7 +54,7 @@ walk-element-copy-out-hopeless-2 : (t : ℕ) → walk-lts.Need-element-copy-out-
 walk-element-copy-out-hopeless-2 t c = search needs
 
 walk-hopeless-requires : (t : ℕ) → walk-lts.Need-hopeless-requires (claims t) (walk-at t) walk.Post
-walk-hopeless-requires t c κs = ((search rate-small, search gain-small, search need-small), search needs)
+walk-hopeless-requires t c κs = (search rate-small, search gain-small, search need-small, search needs, search needs)
 
 walk-returns-3 : (t : ℕ) → walk-lts.Need-returns-3 (claims t) (walk-at t) walk.Post
 walk-returns-3 t c = (search cut-rate, search needs)
@@ -66,7 +66,7 @@ walk-sub-top : (t : ℕ) → walk-lts.Need-sub-top (claims t) (walk-at t) walk.P
 walk-sub-top t c = search needs
 
 walk-walk-requires : (t : ℕ) → walk-lts.Need-walk-requires (claims t) (walk-at t) walk.Post
-walk-walk-requires t c κs = (search needs, (search needs, search needs))
+walk-walk-requires t c κs = (search needs, search needs)
 
 walk-has-requires : (t : ℕ) → walk-lts.Need-has-requires (claims t) (walk-at t) walk.Post
 walk-has-requires t c κs = search needs
@@ -87,7 +87,7 @@ walk-weight-with-requires : (t : ℕ) → walk-lts.Need-weight-with-requires (cl
 walk-weight-with-requires t c κs = search needs
 
 walk-walk-requires-2 : (t : ℕ) → walk-lts.Need-walk-requires-2 (claims t) (walk-at t) walk.Post
-walk-walk-requires-2 t c κs = (search needs, (search needs, search needs))
+walk-walk-requires-2 t c κs = (search needs, search needs)
 
 walk-returns-6 : (t : ℕ) → walk-lts.Need-returns-6 (claims t) (walk-at t) walk.Post
 walk-returns-6 t c = (search turn-in, search needs)

@@ -7,7 +7,7 @@ use Rattle.cover.proofs.least.Statement.{statement}
 use Rattle.cover.proofs.least.Tie as tie
 
 walk-requires : tie.Need-walk-requires
-walk-requires c κs = (search ready, (search needs, search needs))
+walk-requires c κs = (search ready, search needs, search needs)
 
 returns : tie.Need-returns
 returns c = search least-found

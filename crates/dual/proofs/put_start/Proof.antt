@@ -6,7 +6,7 @@ use Rattle.dual.proofs.put_start.Statement.{statement}
 use Rattle.dual.proofs.put_start.Tie as tie
 
 cost-above-requires : tie.Need-cost-above-requires
-cost-above-requires c κs = ((search put-at, search needs), search put-under)
+cost-above-requires c κs = (search put-at, search needs, search put-under)
 
 returns : tie.Need-returns
 returns c = search put-next

@@ -103,7 +103,7 @@ choose-loop-holds : (t : ℕ) → choose-lts.Need-loop-holds (choose-claims t) (
 choose-loop-holds t c = (search needs, search needs, search choose-start, search needs, search others-same, refl)
 
 choose-choose-with-requires : (t : ℕ) → choose-lts.Need-choose-with-requires (choose-claims t) (choose-at t) choose.Post choose-Inv-loop choose-μ-loop
-choose-choose-with-requires t c κs = (omega arith, (search choosing-on, (search needs, search needs, search needs)))
+choose-choose-with-requires t c κs = (omega arith, (search choosing-on, search needs, search needs, search needs))
 
 choose-add-i : (t : ℕ) → choose-lts.Need-add-i (choose-claims t) (choose-at t) choose.Post choose-Inv-loop choose-μ-loop
 choose-add-i t c = search needs
@@ -127,7 +127,7 @@ choose-with-returns : (t : ℕ) → choose-with-lts.Need-returns (choose-with-cl
 choose-with-returns t c = (search choose-over, (search needs, search others-same))
 
 choose-with-with-unit-requires : (t : ℕ) → choose-with-lts.Need-with-unit-requires (choose-with-claims t) (choose-with-at t) choose-with.Post
-choose-with-with-unit-requires t c κs = ((search needs, search needs), (search needs, search needs, search needs, search with-open))
+choose-with-with-unit-requires t c κs = (search needs, search needs, search needs, search needs, search needs, search with-open)
 
 choose-with-choose-requires : (t : ℕ) → choose-with-lts.Need-choose-requires (choose-with-claims t) (choose-with-at t) choose-with.Post
 choose-with-choose-requires t c κs = (omega arith, (search choosing-with, search needs))

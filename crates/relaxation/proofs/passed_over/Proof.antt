@@ -5,6 +5,7 @@ use borrow.Author.Needs.{needs}
 use Rattle.relaxation.proofs.passed_over.Statement.{statement}
 use Rattle.relaxation.proofs.passed_over.Tie as tie
 
+-- by their parts: the promise is a pair of implications, which `search` takes apart before it looks at a law
 returns : tie.Need-returns
 returns c = over-shut _ _ _ _ _ (c .before .has .ensures) (c .if1 .taken)
 

@@ -5,6 +5,7 @@ use borrow.Author.Needs.{needs}
 use Rattle.relaxation.proofs.shut_more.Statement.{statement}
 use Rattle.relaxation.proofs.shut_more.Tie as tie
 
+-- by its parts: `search` applies a promise about every unit only where it is listed
 returns : tie.Need-returns
 returns c = more-is _ _ _ _ _ (c .before .with .ensures) (c .union .ensures)
 

@@ -6,7 +6,7 @@ use Rattle.relaxation.proofs.with_unit.Statement.{statement}
 use Rattle.relaxation.proofs.with_unit.Tie as tie
 
 child-requires : tie.Need-child-requires
-child-requires c κs = ((search needs, search needs, search needs, search needs), ((search price-in, search rest-small), search needs))
+child-requires c κs = (search needs, search needs, search needs, search needs, search price-in, search rest-small, search needs)
 
 returns : tie.Need-returns
 returns c = (search known-with, search needs)

@@ -11,7 +11,7 @@ search-all-requires c κs = search ask-begins
 make-reply-requires : tie.Need-make-reply-requires
 make-reply-requires c κs = search ask-replies
 
--- what was asked stands behind more records than a search enters from the end: it looks from the record of `searched` on
+-- what was asked stands behind more records than a search enters from the end: it looks from the record of `search_all` on
 returns : tie.Need-returns
 returns c = (search (ask-answered, c .before .before .before .before .before .before .before .before), search needs)
 

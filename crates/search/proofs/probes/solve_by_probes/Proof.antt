@@ -5,7 +5,7 @@ use mathlib.Core.Path.{_≡_, refl}
 use lib.ListN.{length}
 use Rattle.model.specs.Nogood.{MOST_LIMIT}
 use Rattle.search.proofs.AskLaws.{walk-root}
-use Rattle.search.proofs.ProbeLaws.{Probes, probes-start, probes-recalls, probe-due, probe-next, probe-found, last-due, last-ends}
+use Rattle.search.proofs.ProbeLaws.{Probes, probes-start, probe-due, probe-next, probe-found, last-due, last-ends}
 use borrow.Author.Needs.{needs}
 use Rattle.search.proofs.probes.solve_by_probes.Statement.{statement}
 use Rattle.search.proofs.probes.solve_by_probes.Tie as tie

@@ -182,7 +182,7 @@ try-start-enum-told t c = search needs
 try-start-placed-rows-requires : (t : ℕ) → try-start-lts.Need-placed-rows-requires (try-start-claims t) (try-start-at t) try-start.Post
 try-start-placed-rows-requires t c κs = (search taken-filed, search taken-rows)
 
--- the same, from `judged` on; omega reads the measure at entry from the record of that call
+-- the same, from `judge_start` on; omega reads the measure at entry from the record of that call
 try-start-place-requires : (t : ℕ) → try-start-lts.Need-place-requires (try-start-claims t) (try-start-at t) try-start.Post
 try-start-place-requires t c κs =
     let judging = c .before .before .before .before .before .before .before .before .before .before .before in

@@ -1,4 +1,4 @@
--- `prices::wants::weeks_value` meets its contract: the sum so far has less than 2^28 for each week, and the memo is right.
+-- `prices::wants::choose_weeks` meets its contract: the sum so far has less than 2^28 for each week, and the memo is right.
 -- Assumes nothing.
 use Prim.Native.Nat.{_-_, _*_, _≤_}
 use mathlib.Core.Path.{_≡_, refl}
@@ -9,8 +9,8 @@ use Rattle.memo.specs.Memo.{Right, Others}
 use Rattle.memo.proofs.EntryLaws.{others-same, others-trans}
 use Rattle.prices.proofs.RangeLaws.{priced-week}
 use borrow.Author.Needs.{needs}
-use Rattle.prices.proofs.wants.weeks_value.Statement.{statement}
-use Rattle.prices.proofs.wants.weeks_value.Tie as tie
+use Rattle.prices.proofs.wants.choose_weeks.Statement.{statement}
+use Rattle.prices.proofs.wants.choose_weeks.Tie as tie
 
 abbrev Inv-loop : tie.InvT-loop
 Inv-loop words l tables wants₀ memo₀ weeks sum₀ t₀ wants memo sum t =
@@ -31,8 +31,8 @@ returns c = (search needs, (search needs, search others-trans))
 loop-again : tie.Need-loop-again Inv-loop μ-loop
 loop-again c = (search needs, search needs, search needs, search needs, search others-trans, search needs)
 
-pub weeks-value-spec : {M : Type 1} → statement M
-weeks-value-spec =
+pub choose-weeks-spec : {M : Type 1} → statement M
+choose-weeks-spec =
     tie.close
     (tie.spec
     Inv-loop
