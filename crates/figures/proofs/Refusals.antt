@@ -24,7 +24,8 @@ use Rattle.model.specs.Program.{programVerdict}
 use Rattle.model.proofs.ReadingLaws.{refused-not}
 use Rattle.figures.specs.Files.{fileA}
 use Rattle.figures.specs.Cases.{bytesOf, Each, askPair}
-use Rattle.figures.specs.Refusals.{kindRows, offRows, rangeRows, windowRows, pairRows, fifthRows, endRows, askRows, lentFor, memoryRows, largeRows, runRows, gridRows, formulaRows, warmGridRows, bytesRows, drawRows, inputRows, judgeRows, LongInput, ReadInput, sizeRows, sizingRows, RefusedRun, NoCause, Refusals}
+use Rattle.figures.specs.FileRefusals.{kindRows, offRows, rangeRows, windowRows, pairRows, fifthRows, endRows}
+use Rattle.figures.specs.Refusals.{askRows, lentFor, memoryRows, largeRows, runRows, gridRows, formulaRows, warmGridRows, bytesRows, drawRows, inputRows, judgeRows, LongInput, ReadInput, sizeRows, sizingRows, RefusedRun, NoCause, Refusals}
 use Rattle.figures.proofs.CaseLaws.{each-of}
 
 -- ---- files

@@ -13,6 +13,7 @@ pub mod Runs
 pub mod Worked
 -- what is due from the definitions for given inputs
 pub mod Cases
+pub mod FileRefusals
 pub mod Refusals
 pub mod Encodings
 -- the common theorem's statement

@@ -11,6 +11,14 @@ use reference::{block_len, permitted_starts, word, Ask, Plan, Survey};
 /// The largest ceiling and the largest budget.
 pub const MOST: u32 = (1 << 28) - 1;
 
+/// Numbers of table words: the fewest, one more, some, the most.
+pub const TABLES: [usize; 4] = [64, 65, 200, 16_384];
+
+/// The words of an ask.
+pub fn ask(ceiling: u32, budget: u32) -> [u32; 2] {
+    [word(11, ceiling), word(12, budget)]
+}
+
 /// A plan of the given size to ask about. Three in four are made to fit a schedule; then some get
 /// short overhauls in wide windows, and some a peculiarity.
 pub fn asked_plan(random: &mut Random, weeks: u32, units: u32) -> Plan {
@@ -27,6 +35,54 @@ pub fn asked_plan(random: &mut Random, weeks: u32, units: u32) -> Plan {
         widen(&mut plan, random);
     }
     make_peculiar(&mut plan, random);
+    plan
+}
+
+/// Sizes with few places, all in turn: units, then weeks.
+pub fn tiny_size(seed: u64) -> (u32, u32) {
+    let sizes = [
+        (1, 1),
+        (1, 6),
+        (2, 2),
+        (2, 3),
+        (2, 5),
+        (3, 1),
+        (3, 2),
+        (4, 2),
+        (5, 1),
+        (3, 3),
+    ];
+    sizes[seed as usize % sizes.len()]
+}
+
+/// A small plan to list asks for, of all sizes with few places in turn, one unit and one week among
+/// them; some have a single crew, and some no more than one start for a unit.
+pub fn listed_plan(seed: u64, random: &mut Random) -> Plan {
+    let sizes = [
+        (1, 1),
+        (1, 6),
+        (5, 1),
+        (2, 2),
+        (2, 5),
+        (3, 2),
+        (3, 3),
+        (3, 4),
+        (4, 2),
+        (4, 3),
+        (5, 2),
+        (2, 9),
+        (4, 4),
+        (5, 3),
+    ];
+    let (units, weeks) = sizes[seed as usize % sizes.len()];
+    let mut plan = asked_plan(random, weeks, units);
+    if random.once_in(5) {
+        plan.crews = 1;
+    }
+    if random.once_in(10) {
+        let unit = random.place(units as usize);
+        plan.latest[unit] = plan.earliest[unit];
+    }
     plan
 }
 

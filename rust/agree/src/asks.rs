@@ -1,12 +1,14 @@
 //! The comparison of runs of asks: what the proved run left, its blocks and its table, held against
 //! all schedules of the reference, or the refusal; every lent word is looked at.
 
+use crate::asking::dirty_buffers;
 use crate::compare::shown;
 use crate::judgements::proved_judgement;
 use crate::off_costs::OffCounts;
+use crate::Random;
 use reference::{
-    accept, block_len, check_run, lay_out, read, runs_of, starts_of, Ask, Checked, Conflict,
-    Judgement, Lent, Plan, Refusal, Status, Survey,
+    accept, ask_words, block_len, check_run, lay_out, read, runs_of, starts_of, Ask, Checked,
+    Conflict, Judgement, Lent, Plan, Refusal, Status, Survey,
 };
 use std::collections::{BTreeMap, BTreeSet};
 use std::fmt::Arguments;
@@ -69,6 +71,15 @@ pub struct Buffers {
 }
 
 impl Buffers {
+    /// Words of the given numbers, all alike.
+    pub fn alike(answers: usize, table: usize, scratch: usize) -> Self {
+        Buffers {
+            answers: vec![9; answers],
+            table: vec![9; table],
+            scratch: vec![9; scratch],
+        }
+    }
+
     /// As many words of each, all 0.
     fn cleared(&self) -> Self {
         Buffers {
@@ -160,6 +171,21 @@ impl Answers {
                 Ok(checked.statuses)
             }
         }
+    }
+
+    /// The statuses of a list of asks on a file, in dirty words with a table of so many.
+    pub fn statuses(
+        &mut self,
+        file: &mut AskedFile,
+        asks: &[Ask],
+        table: usize,
+        random: &mut Random,
+        seed: u64,
+    ) -> Vec<Status> {
+        let mut lent = dirty_buffers(file.survey().plan(), asks.len(), table, random);
+        let origin = format_args!("table {table}, seed {seed}");
+        let answer = self.agreed(file, &ask_words(asks), &mut lent, origin);
+        answer.expect("file and asks are accepted, and the words are enough")
     }
 
     /// Counts a run that is right.

@@ -1,6 +1,7 @@
 //! The comparison: the proved reader's verdict held against the reference's, number and place.
 
 use crate::off_costs::OffCounts;
+use crate::Random;
 use reference::{kind_of, read, value_of, Refusal};
 use std::collections::BTreeSet;
 use std::fmt::Arguments;
@@ -28,6 +29,16 @@ pub struct Counts {
 }
 
 impl Counts {
+    /// The verdicts on the file of each seed; a failure prints the seed.
+    pub fn over_seeds(seeds: u64, file: impl Fn(&mut Random) -> Vec<u32>) -> Self {
+        let mut counts = Counts::default();
+        for seed in 0..seeds {
+            let words = file(&mut Random::seeded(seed));
+            let _ = counts.agreed(&words, format_args!("seed {seed}"));
+        }
+        counts
+    }
+
     /// The verdict that both readers give; panics, with the origin and the file, where they differ.
     pub fn agreed(&mut self, words: &[u32], origin: Arguments) -> Verdict {
         let plan = read(words);

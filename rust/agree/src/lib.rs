@@ -20,8 +20,8 @@ mod schedules;
 mod seeds;
 
 pub use asking::{
-    asked_plan, dirty_buffers, dirty_table, leave_no_start, many_units, telling_asks,
-    telling_budgets, telling_ceilings, MOST,
+    ask, asked_plan, dirty_buffers, dirty_table, leave_no_start, listed_plan, many_units,
+    telling_asks, telling_budgets, telling_ceilings, tiny_size, MOST, TABLES,
 };
 pub use asks::{proved_asks, Answers, AskedFile, Buffers, ListAnswer};
 pub use breaches::{breaches, Case};

@@ -1,37 +1,14 @@
-//! The proved reader against the reference, number and place of every refusal, on files that are
-//! legal, damaged in one word or several, cut short, too long, and random.
+//! The proved reader against the reference, number and place of every refusal: each cause, the
+//! order of tests, and files that are legal, cut short or too long.
 
 use agree::{
-    all_pairs, border_plans, edited, largest, near, off_damages, random_from, random_plan,
-    recounted, replacements, small_plans, smallest, Counts, OffClass, Random, Verdict,
+    all_pairs, border_plans, largest, off_damages, random_plan, recounted, small_plans, smallest,
+    Counts, OffClass, Random, Verdict,
 };
 use reference::{encode, example_a_words, word, Plan, Refusal};
 
 fn refused(number: u32, place: usize) -> Verdict {
     Err(Refusal { number, place })
-}
-
-/// Random files, one for each seed; a failure prints the seed.
-fn sweep_seeds(seeds: u64, file: impl Fn(&mut Random) -> Vec<u32>) -> Counts {
-    let mut counts = Counts::default();
-    for seed in 0..seeds {
-        let words = file(&mut Random::seeded(seed));
-        let _ = counts.agreed(&words, format_args!("seed {seed}"));
-    }
-    counts
-}
-
-/// The plan's file with each telling word at each of the places.
-fn sweep_places(plan: &Plan, places: impl Iterator<Item = usize>, counts: &mut Counts) {
-    let words = encode(plan);
-    let mut damaged = words.clone();
-    for place in places {
-        for new in replacements(&words, place, plan) {
-            damaged[place] = new;
-            let _ = counts.agreed(&damaged, format_args!("word {place} replaced by {new:#x}"));
-        }
-        damaged[place] = words[place];
-    }
 }
 
 /// Every shorter file is refused for ending, at its length.
@@ -88,8 +65,8 @@ fn files_at_the_borders_of_size_range_window_and_pairs_are_accepted() {
 
 #[test]
 fn random_legal_files_are_accepted() {
-    let small = sweep_seeds(4000, |random| encode(&random_plan(random, 8, 16)));
-    let any = sweep_seeds(400, |random| encode(&random_plan(random, 52, 16)));
+    let small = Counts::over_seeds(4000, |random| encode(&random_plan(random, 8, 16)));
+    let any = Counts::over_seeds(400, |random| encode(&random_plan(random, 52, 16)));
     assert_eq!((small.accepted(), any.accepted()), (4000, 400));
     assert!(small.off().rarest() > 500 && any.off().rarest() > 50);
     small.report("random legal, small");
@@ -263,58 +240,6 @@ fn the_first_fault_decides() {
 }
 
 #[test]
-fn every_single_word_damage_of_small_files_agrees() {
-    let mut counts = Counts::default();
-    for plan in small_plans() {
-        let length = encode(&plan).len();
-        sweep_places(&plan, 0..length, &mut counts);
-    }
-    assert_eq!(counts.numbers(), [1, 2, 3, 4, 6]);
-    assert!(counts.accepted() > 1000 && counts.total() > 50_000);
-    counts.report("single word, small files");
-}
-
-#[test]
-fn every_word_deleted_doubled_or_swapped_in_small_files_agrees() {
-    let mut counts = Counts::default();
-    for plan in small_plans() {
-        let words = encode(&plan);
-        for place in 0..words.len() {
-            let mut shorter = words.clone();
-            shorter.remove(place);
-            let mut longer = words.clone();
-            longer.insert(place, words[place]);
-            let mut swapped = words.clone();
-            swapped.swap(place, (place + 1) % words.len());
-            for file in [shorter, longer, swapped] {
-                let _ = counts.agreed(&file, format_args!("word {place} moved"));
-                let _ = counts.agreed(&recounted(file), format_args!("word {place}, recounted"));
-            }
-        }
-    }
-    assert_eq!(counts.numbers(), [1, 4, 6, 7]);
-    counts.report("deleted, doubled, swapped");
-}
-
-#[test]
-fn sampled_single_word_damage_of_the_largest_file_agrees() {
-    let mut counts = Counts::default();
-    let plan = largest();
-    let length = encode(&plan).len();
-    let head = (0..8).chain((50..110).step_by(7));
-    let middle = (110..length - 130).step_by(97);
-    let tail = (length - 130..length).step_by(13);
-    let places = head
-        .chain(middle)
-        .chain(tail)
-        .chain([length - 2, length - 1]);
-    sweep_places(&plan, places, &mut counts);
-    assert_eq!(counts.numbers(), [1, 2, 3, 4, 6]);
-    assert!(counts.accepted() > 500);
-    counts.report("single word, largest file");
-}
-
-#[test]
 fn a_file_cut_short_is_refused_at_its_length() {
     let mut counts = Counts::default();
     for plan in small_plans() {
@@ -380,60 +305,4 @@ fn with_inserted(words: &[u32], place: usize, new: u32) -> Vec<u32> {
     let mut longer = words.to_vec();
     longer.insert(place, new);
     recounted(longer)
-}
-
-/// Nearly every such list is refused at its first word; the next test gets further.
-#[test]
-fn lists_of_any_words_agree() {
-    let counts = sweep_seeds(500, |random| {
-        let length = random.place(60);
-        random.words(length)
-    });
-    assert_eq!(counts.numbers(), [1, 2]);
-    assert_eq!(counts.accepted(), 0);
-    counts.report("any words");
-}
-
-/// The beginning is of any length, from no word to the whole file, so the first word at fault is
-/// anywhere: of more than 100 places one at least is beyond the first 100 words.
-#[test]
-fn random_words_after_a_legal_beginning_agree() {
-    let counts = sweep_seeds(10_000, |random| {
-        let plan = random_plan(random, 6, 6);
-        let words = encode(&plan);
-        let place = random.place(words.len() + 1);
-        random_from(&words, place, &plan, random)
-    });
-    assert_eq!(counts.numbers(), [1, 2, 3, 4, 6, 7]);
-    assert!(counts.places() > 100);
-    counts.report("random words after a legal beginning");
-}
-
-/// The kinds of a legal file, with values that are legal for the most part and else near it.
-#[test]
-fn lists_with_the_kinds_of_a_legal_file_agree() {
-    let counts = sweep_seeds(5000, |random| {
-        let plan = random_plan(random, 6, 6);
-        let mut words = encode(&plan);
-        for old in &mut words {
-            if random.once_in(40) {
-                *old = near(*old, &plan, random);
-            }
-        }
-        words
-    });
-    assert_eq!(counts.numbers(), [1, 2, 3, 4, 6]);
-    assert!(counts.accepted() > 1000 && counts.off().rarest() > 100);
-    counts.report("kinds of a legal file");
-}
-
-#[test]
-fn legal_files_with_several_words_edited_agree() {
-    let counts = sweep_seeds(10_000, |random| {
-        let plan = random_plan(random, 6, 6);
-        edited(&encode(&plan), &plan, random)
-    });
-    assert_eq!(counts.numbers(), [1, 2, 3, 4, 6, 7]);
-    assert!(counts.accepted() > 100 && counts.off().rarest() > 10);
-    counts.report("several words edited");
 }
