@@ -1,17 +1,14 @@
--- The lower bound at any prices: what every sound schedule with the starts of some units costs at least; and what the first k units cost so far.
+-- The lower bound at any prices: what every sound schedule with the starts of some units costs at least; and what all units' starts cost.
 -- Assumes nothing.
-use Prim.Native.Nat.{ℕ, zero, suc, _+_, _≤_, _<_}
+use Prim.Native.Nat.{ℕ, _+_, _≤_, _<_}
 use mathlib.Core.Path.{_≡_, refl, sym, _∙_, ap}
 use mathlib.Core.Bool.{Bool, true, false, not}
-use mathlib.Core.Logic.{⊎-elim}
-use native.Mathlib.Nat.{eq-or-lt-of-le, le-of-suc-le-suc}
 use native.Mathlib.Omega.{arith}
-use borrow.Author.Tests.{lt-ltb, le-ltb}
 use Rattle.sums.specs.Logic.{if}
 use Rattle.sums.specs.Sum.{sumTo, added, transposed, rowSum}
 use Rattle.sums.specs.NumSet.{NumSet, onlyIn, parts, complement}
 use Rattle.sums.proofs.LogicLaws.{and-left, and-right}
-use Rattle.sums.proofs.SumLaws.{sum-mono, sum-same, sum-zero, sum-added, exchange}
+use Rattle.sums.proofs.SumLaws.{sum-mono, sum-same, sum-added, exchange}
 use Rattle.sums.proofs.NumSetLaws.{sum-split}
 use Rattle.model.specs.Problem.{Problem, Fair}
 use Rattle.model.specs.Schedule.{Schedule, inSpan, outIn, IsRun}
@@ -20,7 +17,7 @@ use Rattle.model.specs.Plan.{Plan, upkeep, upkeepAt, runCostAt, planCost}
 use Rattle.model.proofs.CommitmentLaws.{fewer-out, cheapest-right, cheapest-fewer, run-full}
 use Rattle.model.proofs.ScheduleLaws.{sound-plan, cost-plan}
 use Rattle.blame.specs.Closed.{Agree, Closed}
-use Rattle.blame.specs.Placed.{outOf, placed, weekPaid, paid}
+use Rattle.blame.specs.Placed.{outOf, weekPaid, paid}
 use Rattle.blame.specs.Priced.{priced, priceSum, offSum, unitBound, lowerBound, LeastPriced, WeekLeast}
 
 -- ---- sums
@@ -36,20 +33,6 @@ sum-parts n a f g h =
     go : (k : ℕ) (b : Bool) → if b (f k + g k) (h k) ≡ if b (f k) 0 + if (not b) (h k) 0 + if b (g k) 0
     go k true = omega arith
     go k false = omega arith
-
--- terms that are those of g below k and those of h from k on
-sum-front : (k n : ℕ) (f g h : ℕ → ℕ) → k ≤ n → ((i : ℕ) → i < k → f i ≡ g i) → ((i : ℕ) → k ≤ i → i < n → f i ≡ h i)
-    → sumTo n f + sumTo k h ≡ sumTo k g + sumTo n h
-unfolding sumTo
-sum-front zero zero f g h le low high = refl
-sum-front (suc k) zero f g h le low high = absurd (omega arith)
-sum-front k (suc n) f g h le low high =
-    ⊎-elim
-    (λ (e : k ≡ suc n). rw e (ap (λ (a : ℕ). a + sumTo (suc n) h) (sum-same (suc n) f g (λ i l. low i (omega arith)))))
-    (λ (l : k < suc n).
-    let m : k ≤ n = le-of-suc-le-suc l in
-    omega (arith, sum-front k n f g h m low (λ i a b. high i a (omega arith)), high n m (omega arith)))
-    (eq-or-lt-of-le le)
 
 -- ---- a week's cheapest run
 
@@ -160,32 +143,17 @@ priced-closed p u b starts least v limit fair le w h = record {
   costs = λ s sound agree. omega (arith, bound-below p u s b starts least v (sound-plan p s fair sound) agree le w, cost-plan p s (sound .schedule));
 }
 
--- ---- the first k units
+-- ---- all units placed
 
-module _ (p : Problem) (starts : ℕ → ℕ) (k : ℕ) (le : k ≤ p .units) where
-  -- a week's maintenance is that of the first k units which are out
-  week-upkeep : (t : ℕ) → outCost p t (placed p starts k t) ≡ sumTo k (onlyIn (outIn p starts t) (p .maint t))
-  unfolding outCost placed onlyIn
-  week-upkeep t =
-      let e = sum-front k (p .units) (onlyIn (placed p starts k t) (p .maint t)) (onlyIn (outIn p starts t) (p .maint t)) (λ i. 0) le low high in
-      omega (arith, e, sum-zero k (λ i. 0) (λ i l. refl), sum-zero (p .units) (λ i. 0) (λ i l. refl))
-    where
-      low : (i : ℕ) → i < k → onlyIn (placed p starts k t) (p .maint t) i ≡ onlyIn (outIn p starts t) (p .maint t) i
-      low i l = rw (lt-ltb i k l)
+module _ (p : Problem) (starts : ℕ → ℕ) where
+  -- the maintenance of all weeks is that of the overhauls
+  out-upkeep : sumTo (p .weeks) (λ t. outCost p t (outIn p starts t)) ≡ sumTo (p .units) (upkeepAt p starts)
+  unfolding outCost upkeepAt upkeep rowSum transposed onlyIn outIn
+  out-upkeep = exchange (p .weeks) (p .units) (λ t. onlyIn (outIn p starts t) (p .maint t))
 
-      high : (i : ℕ) → k ≤ i → i < p .units → onlyIn (placed p starts k t) (p .maint t) i ≡ 0
-      high i l h = rw (le-ltb i k l)
-
-  -- the maintenance of all weeks, with the first k units placed, is that of their overhauls
-  pub placed-upkeep : sumTo (p .weeks) (λ t. outCost p t (placed p starts k t)) ≡ sumTo k (upkeepAt p starts)
-  unfolding upkeepAt upkeep rowSum transposed onlyIn outIn
-  placed-upkeep =
-      sum-same (p .weeks) (λ t. outCost p t (placed p starts k t)) (rowSum k (λ t. onlyIn (outIn p starts t) (p .maint t))) (λ t l. week-upkeep t)
-      ∙ exchange (p .weeks) k (λ t. onlyIn (outIn p starts t) (p .maint t))
-
-  -- so what they cost so far is their overhauls and the weeks' cheapest runs
-  pub paid-parts : paid p (placed p starts k) ≡ sumTo k (upkeepAt p starts) + sumTo (p .weeks) (λ t. leastCost p t (placed p starts k t))
+  -- so what the starts cost is their overhauls and the weeks' cheapest runs
+  pub paid-parts : paid p (outIn p starts) ≡ sumTo (p .units) (upkeepAt p starts) + sumTo (p .weeks) (λ t. leastCost p t (outIn p starts t))
   unfolding paid weekPaid added
   paid-parts =
-      sum-added (p .weeks) (λ t. outCost p t (placed p starts k t)) (λ t. leastCost p t (placed p starts k t))
-      ∙ ap (λ (a : ℕ). a + sumTo (p .weeks) (λ t. leastCost p t (placed p starts k t))) placed-upkeep
+      sum-added (p .weeks) (λ t. outCost p t (outIn p starts t)) (λ t. leastCost p t (outIn p starts t))
+      ∙ ap (λ (a : ℕ). a + sumTo (p .weeks) (λ t. leastCost p t (outIn p starts t))) out-upkeep

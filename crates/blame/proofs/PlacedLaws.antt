@@ -5,14 +5,15 @@ use Prim.Native.Nat.{ℕ, _+_, _≤_, _<_}
 use mathlib.Core.Path.{_≡_, refl, sym, _∙_, ap, subst, fun-ext}
 use mathlib.Core.Bool.{Bool, true, false, not, _&&_, _||_}
 use mathlib.Core.Logic.{_⊎_, inl, inr, ⊎-elim}
-use native.Mathlib.Nat.{eq-or-lt-of-le, le-refl}
+use native.Mathlib.Decide.{ℕ-discrete}
+use native.Mathlib.Nat.{eq-or-lt-of-le}
 use native.Mathlib.Omega.{arith}
 use lib.Dec.{ltb, eqb}
 use borrow.Author.Tests.{ltb-true, lt-ltb, le-ltb, eq-eqb, ne-eqb}
 use Rattle.sums.specs.Sum.{sumTo}
 use Rattle.sums.specs.NumSet.{NumSet, complement, with}
 use Rattle.sums.proofs.NumSetLaws.{pick-agree}
-use Rattle.sums.proofs.LogicLaws.{and-last-false, and-last-true, or-last-false, not-so, same-test, ltb-total}
+use Rattle.sums.proofs.LogicLaws.{and-last-false, and-last-true, or-last-false, or-right, not-so, same-test, ltb-total}
 use Rattle.sums.proofs.SumLaws.{sum-mono, sum-same, sum-less}
 pub use Rattle.sums.proofs.SumLaws.{sum-one}
 use Rattle.model.specs.Problem.{Problem, Fair}
@@ -41,7 +42,7 @@ use Rattle.model.proofs.DomainLaws.{span-from, span-below, span-of}
 use Rattle.model.proofs.CommitmentLaws.{fewer-out, cheapest-right, cheapest-full, least-of}
 use Rattle.model.proofs.ScheduleLaws.{sound-plan, plan-sound, cost-plan}
 use Rattle.blame.specs.Closed.{Closed, Settled}
-use Rattle.blame.specs.Placed.{firstUnits, placed, partly, paid, Standing, runOf, runAt, planOf}
+use Rattle.blame.specs.Placed.{firstUnits, outOf, partly, paid, Standing, runOf, runAt, planOf}
 use Rattle.blame.proofs.PairLaws.{compatible-same}
 use Rattle.blame.proofs.BoundLaws.{paid-parts}
 
@@ -92,79 +93,89 @@ module _ (p : Problem) (t : ℕ) (a b : NumSet) (same : (i : ℕ) → i < p .uni
       go (picked q) c (picked r) d =
           omega (arith, cheapest-full p t a q r c (back r (d .serves)), cheapest-full p t b r q d (there q (c .serves)))
 
--- ---- the first k units
+-- ---- the units placed
 
--- with no unit placed none is out
-pub placed-none : (p : Problem) (starts : ℕ → ℕ) (t i : ℕ) → placed p starts 0 t i ≡ false
-unfolding placed
-placed-none p starts t i = rw (le-ltb i 0 (omega arith))
+-- one unit more than the first k
+pub first-next : (k : ℕ) → with (firstUnits k) k ≡ firstUnits (k + 1)
+unfolding firstUnits
+first-next k = fun-ext (λ i. go i (ltb-total i k))
+  where
+    go : (i : ℕ) → (ltb i k ≡ true) ⊎ ((i ≡ k) ⊎ (ltb k i ≡ true)) → (ltb i k || eqb i k) ≡ ltb i (k + 1)
+    go i (inl e) = let l = ltb-true i k e in rw (e, lt-ltb i (k + 1) (omega arith))
+    go i (inr (inl e)) = or-right (ltb i k) (eqb i k) (eq-eqb i k e) ∙ sym (lt-ltb i (k + 1) (omega arith))
+    go i (inr (inr e)) = let l = ltb-true k i e in rw (le-ltb i k (omega arith), ne-eqb i k (λ q. omega arith), le-ltb i (k + 1) (omega arith))
 
-module _ (p : Problem) (starts other : ℕ → ℕ) (k : ℕ) (same : (i : ℕ) → i < k → starts i ≡ other i) where
+-- a unit that is not placed is not out by its start
+pub out-none : (p : Problem) (b : NumSet) (starts : ℕ → ℕ) (t i : ℕ) → b i ≡ false → outOf p b starts t i ≡ false
+unfolding outOf
+out-none p b starts t i e = rw e
+
+module _ (p : Problem) (b : NumSet) (starts other : ℕ → ℕ) (same : (i : ℕ) → b i ≡ true → starts i ≡ other i) where
   -- only the starts of the units placed count: for who is out
-  pub placed-agree : (t i : ℕ) → placed p starts k t i ≡ placed p other k t i
-  unfolding placed outIn
-  placed-agree t i = go (ltb i k) refl
+  pub out-agree : (t i : ℕ) → outOf p b starts t i ≡ outOf p b other t i
+  unfolding outOf outIn
+  out-agree t i = go (b i) refl
     where
-      go : (b : Bool) → ltb i k ≡ b → (b && inSpan (starts i) (p .duration i) t) ≡ (b && inSpan (other i) (p .duration i) t)
-      go true e = ap (λ (s : ℕ). inSpan s (p .duration i) t) (same i (ltb-true i k e))
+      go : (c : Bool) → b i ≡ c → (c && inSpan (starts i) (p .duration i) t) ≡ (c && inSpan (other i) (p .duration i) t)
+      go true e = ap (λ (s : ℕ). inSpan s (p .duration i) t) (same i e)
       go false e = refl
 
   -- for what the search has tested
-  pub standing-agree : Standing p starts k → Standing p other k
+  pub standing-agree : Standing p b starts → Standing p b other
   standing-agree s = record {
     permits = λ i h. ap (permitted p i) (sym (same i h)) ∙ s .permits i h;
-    compatible = λ t l. subst (Compatible p) (fun-ext (placed-agree t)) (s .compatible t l);
-    served = λ t l. subst (λ (a : NumSet). fullLeast p t a < NO_RUN) (fun-ext (placed-agree t)) (s .served t l);
+    compatible = λ t l. subst (Compatible p) (fun-ext (out-agree t)) (s .compatible t l);
+    served = λ t l. subst (λ (a : NumSet). fullLeast p t a < NO_RUN) (fun-ext (out-agree t)) (s .served t l);
   }
 
--- ---- unit k, a week at a time
+-- ---- one unit more, a week at a time
 
-module _ (p : Problem) (starts : ℕ → ℕ) (k t i : ℕ) where
-  partly-at : (m : ℕ) (b : Bool) → inSpan (starts k) m t ≡ b → partly p starts k m t i ≡ (placed p starts k t i || (eqb i k && b))
+module _ (p : Problem) (b : NumSet) (starts : ℕ → ℕ) (j t i : ℕ) where
+  partly-at : (m : ℕ) (c : Bool) → inSpan (starts j) m t ≡ c → partly p b starts j m t i ≡ (outOf p b starts t i || (eqb i j && c))
   unfolding partly
-  partly-at m b e = ap (λ (c : Bool). placed p starts k t i || (eqb i k && c)) e
+  partly-at m c e = ap (λ (x : Bool). outOf p b starts t i || (eqb i j && x)) e
 
-  partly-out : (m : ℕ) → (inSpan (starts k) m t ≡ true → ⊥) → partly p starts k m t i ≡ placed p starts k t i
-  partly-out m h = partly-at m false (not-so (inSpan (starts k) m t) h) ∙ rw (and-last-false (eqb i k)) (or-last-false (placed p starts k t i))
+  partly-out : (m : ℕ) → (inSpan (starts j) m t ≡ true → ⊥) → partly p b starts j m t i ≡ outOf p b starts t i
+  partly-out m h = partly-at m false (not-so (inSpan (starts j) m t) h) ∙ rw (and-last-false (eqb i j)) (or-last-false (outOf p b starts t i))
 
-  -- with unit k out for no week yet, only the units placed are out
-  pub partly-none : partly p starts k 0 t i ≡ placed p starts k t i
-  partly-none = partly-out 0 (λ e. omega (arith, span-from (starts k) 0 t e, span-below (starts k) 0 t e))
+  -- with unit j out for no week yet, only the units placed are out
+  pub partly-none : partly p b starts j 0 t i ≡ outOf p b starts t i
+  partly-none = partly-out 0 (λ e. omega (arith, span-from (starts j) 0 t e, span-below (starts j) 0 t e))
 
-  -- with it out for its whole overhaul, one unit more is placed
-  pub partly-all : partly p starts k (p .duration k) t i ≡ placed p starts (k + 1) t i
-  unfolding partly placed outIn
-  partly-all = go (ltb-total i k)
+  -- with it out for its whole overhaul, it is placed too
+  pub partly-all : partly p b starts j (p .duration j) t i ≡ outOf p (with b j) starts t i
+  unfolding partly outOf outIn
+  partly-all = go (ℕ-discrete i j)
     where
-      go : (ltb i k ≡ true) ⊎ ((i ≡ k) ⊎ (ltb k i ≡ true)) → partly p starts k (p .duration k) t i ≡ placed p starts (k + 1) t i
-      go (inl e) =
-          let l = ltb-true i k e in
-          rw (e, ne-eqb i k (λ q. omega arith), lt-ltb i (k + 1) (omega arith)) (or-last-false (inSpan (starts i) (p .duration i) t))
-      go (inr (inl e)) = rw (e, le-ltb k k (omega arith), eq-eqb k k refl, lt-ltb k (k + 1) (omega arith))
-      go (inr (inr e)) =
-          let l = ltb-true k i e in
-          rw (le-ltb i k (omega arith), ne-eqb i k (λ q. omega arith), le-ltb i (k + 1) (omega arith))
+      own : (c x : Bool) → ((c && x) || x) ≡ ((c || true) && x)
+      own true true = refl
+      own true false = refl
+      own false x = refl
 
-module _ (p : Problem) (starts : ℕ → ℕ) (k n t i : ℕ) where
+      go : Dec (i ≡ j) → partly p b starts j (p .duration j) t i ≡ outOf p (with b j) starts t i
+      go (yes e) = rw (e, eq-eqb j j refl) (own (b j) (inSpan (starts j) (p .duration j) t))
+      go (no n) = rw (ne-eqb i j n, or-last-false (b i)) (or-last-false (b i && inSpan (starts i) (p .duration i) t))
+
+module _ (p : Problem) (b : NumSet) (starts : ℕ → ℕ) (j n t i : ℕ) where
   -- one week more of its overhaul: in that week the unit joins those out
-  pub partly-here : t + 1 ≡ starts k + n → partly p starts k (n + 1) t i ≡ with (placed p starts k t) k i
-  partly-here e = partly-at p starts k t i (n + 1) true (span-of (starts k) (n + 1) t (omega arith) (omega arith)) ∙ rw (and-last-true (eqb i k))
+  pub partly-here : t + 1 ≡ starts j + n → partly p b starts j (n + 1) t i ≡ with (outOf p b starts t) j i
+  partly-here e = partly-at p b starts j t i (n + 1) true (span-of (starts j) (n + 1) t (omega arith) (omega arith)) ∙ rw (and-last-true (eqb i j))
 
   -- in the other weeks the same units are out as before
-  pub partly-else : (t + 1 ≡ starts k + n → ⊥) → partly p starts k (n + 1) t i ≡ partly p starts k n t i
+  pub partly-else : (t + 1 ≡ starts j + n → ⊥) → partly p b starts j (n + 1) t i ≡ partly p b starts j n t i
   partly-else ne =
-      partly-at p starts k t i (n + 1) (inSpan (starts k) n t) (same-test (inSpan (starts k) (n + 1) t) (inSpan (starts k) n t) there back)
-      ∙ sym (partly-at p starts k t i n (inSpan (starts k) n t) refl)
+      partly-at p b starts j t i (n + 1) (inSpan (starts j) n t) (same-test (inSpan (starts j) (n + 1) t) (inSpan (starts j) n t) there back)
+      ∙ sym (partly-at p b starts j t i n (inSpan (starts j) n t) refl)
     where
-      there : inSpan (starts k) (n + 1) t ≡ true → inSpan (starts k) n t ≡ true
+      there : inSpan (starts j) (n + 1) t ≡ true → inSpan (starts j) n t ≡ true
       there e =
-          let a = span-from (starts k) (n + 1) t e in
-          let b = span-below (starts k) (n + 1) t e in
-          span-of (starts k) n t a
-          (⊎-elim (λ (q : t + 1 ≡ starts k + n). absurd (ne q)) (λ (l : t + 1 < starts k + n). l) (eq-or-lt-of-le (omega arith)))
+          let a = span-from (starts j) (n + 1) t e in
+          let c = span-below (starts j) (n + 1) t e in
+          span-of (starts j) n t a
+          (⊎-elim (λ (q : t + 1 ≡ starts j + n). absurd (ne q)) (λ (l : t + 1 < starts j + n). l) (eq-or-lt-of-le (omega arith)))
 
-      back : inSpan (starts k) n t ≡ true → inSpan (starts k) (n + 1) t ≡ true
-      back e = span-of (starts k) (n + 1) t (span-from (starts k) n t e) (omega (arith, span-below (starts k) n t e))
+      back : inSpan (starts j) n t ≡ true → inSpan (starts j) (n + 1) t ≡ true
+      back e = span-of (starts j) (n + 1) t (span-from (starts j) n t e) (omega (arith, span-below (starts j) n t e))
 
 -- ---- a week with a run
 
@@ -178,11 +189,6 @@ picked-cheapest p t a low = go (cheapestRun p t a) (cheapest-right p t a) low
     go (picked q) c h = c
 
 -- ---- all units placed
-
--- then the units placed that are out are the units out
-placed-all : (p : Problem) (starts : ℕ → ℕ) (t i : ℕ) → i < p .units → placed p starts (p .units) t i ≡ outIn p starts t i
-unfolding placed
-placed-all p starts t i h = rw (lt-ltb i (p .units) h)
 
 module _ (p : Problem) (starts : ℕ → ℕ) (fair : Fair p) where
   -- these starts' runs in a schedule with the same starts
@@ -205,44 +211,42 @@ module _ (p : Problem) (starts : ℕ → ℕ) (fair : Fair p) where
   upkeep-same s same = sum-same (p .units) (upkeepAt p (s .start)) (upkeepAt p starts) (λ i h. ap (upkeep p i) (same i h))
 
   -- no sound schedule with these starts costs less than they do with each week's cheapest run
-  pub leaf-least : (s : Schedule) → Sound p s → Same (p .units) (s .start) starts → paid p (placed p starts (p .units)) ≤ cost p s
+  pub leaf-least : (s : Schedule) → Sound p s → Same (p .units) (s .start) starts → paid p (outIn p starts) ≤ cost p s
   unfolding planCost runCostAt outIn
   leaf-least s sound same = omega (
     arith,
     cost-plan p s (sound .schedule),
-    paid-parts p starts (p .units) (le-refl (p .units)),
+    paid-parts p starts,
     upkeep-same s same,
-    sum-mono (p .weeks) (λ t. leastCost p t (placed p starts (p .units) t)) (runCostAt p (s .start) (s .run)) week,
+    sum-mono (p .weeks) (λ t. leastCost p t (outIn p starts t)) (runCostAt p (s .start) (s .run)) week,
   )
     where
-      week : (t : ℕ) → t < p .weeks → leastCost p t (placed p starts (p .units) t) ≤ runCost p t (outIn p (s .start) t) (s .run t)
-      week t l = omega (
-        arith,
-        least-same p t (placed p starts (p .units) t) (outIn p starts t) (placed-all p starts t),
-        least-serves p t (outIn p starts t) (s .run t) (run-there s sound same t l),
-        out-same s same t,
-      )
+      week : (t : ℕ) → t < p .weeks → leastCost p t (outIn p starts t) ≤ runCost p t (outIn p (s .start) t) (s .run t)
+      week t l = omega (arith, least-serves p t (outIn p starts t) (s .run t) (run-there s sound same t l), out-same s same t)
 
   -- so they are a dead end below that
-  pub leaf-closed : Closed p (firstUnits (p .units)) starts (paid p (placed p starts (p .units)))
-  unfolding firstUnits
-  leaf-closed = record { costs = λ s sound agree. leaf-least s sound (λ i h. agree i h (lt-ltb i (p .units) h)) }
+  pub leaf-closed : (b : NumSet) → ((i : ℕ) → i < p .units → b i ≡ true) → Closed p b starts (paid p (outIn p starts))
+  leaf-closed b all = record { costs = λ s sound agree. leaf-least s sound (λ i h. agree i h (all i h)) }
 
-  module _ (standing : Standing p starts (p .units)) where
+  module _ (b : NumSet) (all : (i : ℕ) → i < p .units → b i ≡ true) (standing : Standing p b starts) where
+    -- the units placed that are out are the units out
+    out-all : (t i : ℕ) → i < p .units → outOf p b starts t i ≡ outIn p starts t i
+    unfolding outOf
+    out-all t i h = rw (all i h)
+
     -- each week's run is the cheapest
     pub run-cheapest : (t : ℕ) → t < p .weeks → Cheapest p t (outIn p starts t) (runAt p starts t)
     unfolding runAt
     run-cheapest t l =
         picked-cheapest p t (outIn p starts t)
-        (omega (arith, standing .served t l, full-same p t (placed p starts (p .units) t) (outIn p starts t) (placed-all p starts t)))
+        (omega (arith, standing .served t l, full-same p t (outOf p b starts t) (outIn p starts t) (out-all t)))
 
     leaf-plan : Plan p (planOf p starts)
     leaf-plan = record {
-      permits = standing .permits;
+      permits = λ i h. standing .permits i (all i h);
       serves = λ t l. run-cheapest t l .serves;
       compatible = λ t l.
-          compatible-same p (placed p starts (p .units) t) (outIn p starts t) (λ i h. sym (placed-all p starts t i h)) fair
-          (standing .compatible t l);
+          compatible-same p (outOf p b starts t) (outIn p starts t) (λ i h. sym (out-all t i h)) fair (standing .compatible t l);
     }
 
     -- the starts and each week's cheapest run are a sound schedule
@@ -250,23 +254,21 @@ module _ (p : Problem) (starts : ℕ → ℕ) (fair : Fair p) where
     leaf-sound = plan-sound p (planOf p starts) fair leaf-plan
 
     -- which costs what the search has counted
-    pub leaf-cost : cost p (planOf p starts) ≡ paid p (placed p starts (p .units))
+    pub leaf-cost : cost p (planOf p starts) ≡ paid p (outIn p starts)
     unfolding planCost runCostAt
     leaf-cost = omega (
       arith,
       cost-plan p (planOf p starts) (leaf-sound .schedule),
-      paid-parts p starts (p .units) (le-refl (p .units)),
-      sum-same (p .weeks) (λ t. leastCost p t (placed p starts (p .units) t)) (runCostAt p starts (runAt p starts)) week,
+      paid-parts p starts,
+      sum-same (p .weeks) (λ t. leastCost p t (outIn p starts t)) (runCostAt p starts (runAt p starts)) week,
     )
       where
-        week : (t : ℕ) → t < p .weeks → leastCost p t (placed p starts (p .units) t) ≡ runCost p t (outIn p starts t) (runAt p starts t)
-        week t l =
-            least-same p t (placed p starts (p .units) t) (outIn p starts t) (placed-all p starts t)
-            ∙ least-of p t (outIn p starts t) (runAt p starts t) (run-cheapest t l)
+        week : (t : ℕ) → t < p .weeks → leastCost p t (outIn p starts t) ≡ runCost p t (outIn p starts t) (runAt p starts t)
+        week t l = least-of p t (outIn p starts t) (runAt p starts t) (run-cheapest t l)
 
     -- with the same starts and an earlier run in the first week that differs it costs more
     runs-first : (q : Schedule) → Sound p q → Same (p .units) (q .start) starts → Lower (runBefore p) (p .weeks) (q .run) (runAt p starts)
-        → paid p (placed p starts (p .units)) < cost p q
+        → paid p (outIn p starts) < cost p q
     unfolding planCost runCostAt
     runs-first q sound same lower = omega (
       arith,
@@ -284,7 +286,7 @@ module _ (p : Problem) (starts : ℕ → ℕ) (fair : Fair p) where
     )
 
     -- every earlier sound schedule costs more, where all before these starts are settled at a limit above the cost
-    pub leaf-first : (limit : ℕ) → Settled p starts (p .units) limit → paid p (placed p starts (p .units)) < limit
-        → (q : Schedule) → Sound p q → Earlier p q (planOf p starts) → paid p (placed p starts (p .units)) < cost p q
+    pub leaf-first : (limit : ℕ) → Settled p starts (p .units) limit → paid p (outIn p starts) < limit
+        → (q : Schedule) → Sound p q → Earlier p q (planOf p starts) → paid p (outIn p starts) < cost p q
     leaf-first limit settled low q sound (inl lower) = omega (arith, settled .costs q sound lower)
     leaf-first limit settled low q sound (inr both) = runs-first q sound (both .0) (both .1)

@@ -1,5 +1,5 @@
--- A search that has placed the first k units: who is out in each week, what that costs so far, what it has tested, and the schedule that all
--- starts and the weeks' cheapest runs make.
+-- A search that has placed some units, in any order: who is out in each week, what that costs so far, what it has tested, and the schedule that
+-- all starts and the weeks' cheapest runs make.
 -- Assumes nothing.
 use Prim.Native.Nat.{ℕ, _+_, _<_}
 use mathlib.Core.Path.{_≡_}
@@ -21,14 +21,10 @@ firstUnits k i = ltb i k
 unfoldable pub outOf : Problem → NumSet → (ℕ → ℕ) → ℕ → NumSet
 outOf p b starts t i = b i && outIn p starts t i
 
--- the units below k that are out in week t
-unfoldable pub placed : Problem → (ℕ → ℕ) → ℕ → ℕ → NumSet
-placed p starts k t i = ltb i k && outIn p starts t i
-
--- the same, with unit k out for the first n weeks of its overhaul
-unfoldable pub partly : Problem → (ℕ → ℕ) → (k n : ℕ) → ℕ → NumSet
-unfolding placed
-partly p starts k n t i = placed p starts k t i || (eqb i k && inSpan (starts k) n t)
+-- the same, with unit j out for the first n weeks of its overhaul
+unfoldable pub partly : Problem → NumSet → (ℕ → ℕ) → (j n : ℕ) → ℕ → NumSet
+unfolding outOf
+partly p b starts j n t i = outOf p b starts t i || (eqb i j && inSpan (starts j) n t)
 
 -- what a week costs with these units out: their maintenance, and the cheapest run of the others
 unfoldable pub weekPaid : Problem → (ℕ → NumSet) → ℕ → ℕ
@@ -39,11 +35,11 @@ unfoldable pub paid : Problem → (ℕ → NumSet) → ℕ
 unfolding weekPaid
 paid p out = sumTo (p .weeks) (weekPaid p out)
 
--- the first k starts are permitted, and in each week the units out may be out together and leave a run that meets the demand
-pub record Standing (p : Problem) (starts : ℕ → ℕ) (k : ℕ) : Type 0 where
-  pub permits : (i : ℕ) → i < k → permitted p i (starts i) ≡ true
-  pub compatible : (t : ℕ) → t < p .weeks → Compatible p (placed p starts k t)
-  pub served : (t : ℕ) → t < p .weeks → fullLeast p t (placed p starts k t) < NO_RUN
+-- the starts of the units of b are permitted, and in each week those out may be out together and leave a run that meets the demand
+pub record Standing (p : Problem) (b : NumSet) (starts : ℕ → ℕ) : Type 0 where
+  pub permits : (i : ℕ) → b i ≡ true → permitted p i (starts i) ≡ true
+  pub compatible : (t : ℕ) → t < p .weeks → Compatible p (outOf p b starts t)
+  pub served : (t : ℕ) → t < p .weeks → fullLeast p t (outOf p b starts t) < NO_RUN
 
 -- the run that was picked, 0 for none
 unfoldable pub runOf : Pick → ℕ

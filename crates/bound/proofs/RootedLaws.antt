@@ -2,12 +2,11 @@
 -- Assumes nothing.
 use Prim.Native.Nat.{ℕ, _+_, _*_, _≤_, _<_}
 use mathlib.Core.Path.{_≡_, refl, sym, _∙_, ap, subst, fun-ext}
-use mathlib.Core.Bool.{true}
+use mathlib.Core.Bool.{true, false}
 use mathlib.Core.List.{List}
 use native.Mathlib.Decide.{ℕ-discrete}
 use native.Mathlib.Omega.{arith}
 use lib.ListN.{length, getD, set, length-set}
-use borrow.Author.Tests.{le-ltb}
 use Rattle.sums.specs.Sum.{sumTo}
 use Rattle.sums.specs.Range.{listTo}
 use Rattle.sums.specs.NumSet.{NumSet, has}
@@ -24,11 +23,11 @@ use Rattle.model.specs.Words.{problemOf}
 use Rattle.model.proofs.FileLaws.{fair}
 use Rattle.instance.specs.Filed.{Filed}
 use Rattle.blame.specs.Closed.{Closed}
-use Rattle.blame.specs.Placed.{firstUnits, outOf, placed}
+use Rattle.blame.specs.Placed.{outOf}
 use Rattle.blame.specs.Priced.{unitBound, lowerBound, WeekLeast}
 use Rattle.blame.proofs.PairLaws.{compatible-none}
 use Rattle.blame.proofs.ClosedLaws.{demand-closed}
-use Rattle.blame.proofs.PlacedLaws.{placed-none}
+use Rattle.blame.proofs.PlacedLaws.{out-none}
 use Rattle.tables.specs.Tables.{START_COSTS, priceIn, leastIn, excessIn, rootIn, totalIn}
 use Rattle.dual.specs.Dual.{Bounds}
 use Rattle.dual.proofs.BoundsLaws.{week-none, bounds-closed}
@@ -100,49 +99,47 @@ module _ (ws : List ℕ) (l : Layout) (us : List ℕ) (limit : ℕ) (d : RootDue
     all-weeks : t ≡ problemOf ws .weeks
     all-weeks = omega (arith, f .weeks-are)
 
-    none-out : (starts : ℕ → ℕ) (q : ℕ) → has 0 ≡ placed (problemOf ws) starts 0 q
-    none-out starts q = fun-ext (λ i. zero-has i ∙ sym (placed-none (problemOf ws) starts q i))
+    none-out : (starts : ℕ → ℕ) (q i : ℕ) → outOf (problemOf ws) (has 0) starts q i ≡ false
+    none-out starts q i = out-none p (has 0) starts q i (zero-has i)
 
     -- the bound of nobody, with any values that are those of the roots
     root-bounds : (starts : ℕ → ℕ) (xs : List ℕ) → length xs ≡ 52 → ((q : ℕ) → q < problemOf ws .weeks → entry xs q ≡ rootIn us q)
-        → Bounds (problemOf ws) us (firstUnits 0) starts xs r
-    unfolding lowerBound unitBound firstUnits
+        → Bounds (problemOf ws) us (has 0) starts xs r
+    unfolding lowerBound unitBound
     root-bounds starts xs long same = record {
       values = record {
         long = long;
-        least = λ q m. subst (WeekLeast p (priceIn us) q (outOf p (firstUnits 0) starts q)) (sym (same q m))
-            (week-none p (priceIn us) q (outOf p (firstUnits 0) starts q) (rootIn us q) (d .dual .roots .each q m .least));
+        least = λ q m. subst (WeekLeast p (priceIn us) q (outOf p (has 0) starts q)) (sym (same q m))
+            (week-none p (priceIn us) q (outOf p (has 0) starts q) (rootIn us q) (d .dual .roots .each q m .least));
         small = λ q m. omega (arith, same q m, d .dual .roots .each q m .small);
       };
       under =
           let x = sum-same (p .weeks) (entry xs) (rootIn us) same in
-          let z = sum-same (p .units) (unitBound p (priceIn us) (firstUnits 0) starts (leastIn us)) (leastIn us)
-          (λ i m. rw (le-ltb i 0 (omega arith))) in
+          let z = sum-same (p .units) (unitBound p (priceIn us) (has 0) starts (leastIn us)) (leastIn us) (λ i m. rw (zero-has i)) in
           let y : sumTo t (rootIn us) ≡ sumTo (p .weeks) (rootIn us) = ap (λ (n : ℕ). sumTo n (rootIn us)) all-weeks in
           omega (arith, h .sums, x, y, z);
     }
 
     -- it comes to what is wanted: nothing is left
     pub root-blames : (wanted : ℕ) → wanted ≡ limit + totalIn us → wanted ≤ r → AllBlame (problemOf ws) limit 0
-    unfolding firstUnits entry
+    unfolding entry
     root-blames wanted ew le = record { each = λ starts. record { closed = none-closed starts; within = λ i q. nobody i q } }
       where
         none-closed : (starts : ℕ → ℕ) → Closed (problemOf ws) (has 0) starts limit
         none-closed starts =
             let front : List ℕ = listTo 52 (rootIn us) in
-            subst (λ (x : NumSet). Closed p x starts limit) (fun-ext (λ i. le-ltb i 0 (omega arith) ∙ sym (zero-has i)))
-            (bounds-closed p us (firstUnits 0) starts front r limit (fair ws (f .passed)) (d .dual)
+            bounds-closed p us (has 0) starts front r limit (fair ws (f .passed)) (d .dual)
             (root-bounds starts front (list-length 52 (rootIn us))
-            (λ q m. list-at 52 (rootIn us) q (omega (arith, f .weeks-are, f .weeks-most)))) (omega arith))
+            (λ q m. list-at 52 (rootIn us) q (omega (arith, f .weeks-are, f .weeks-most)))) (omega arith)
 
     -- else it is the bound before any unit is placed
     pub root-stands : (xs : List ℕ) → RootValues us xs → AllStand (problemOf ws) us xs r
     root-stands xs fr = record {
       each = λ starts. record {
         standing = record {
-          permits = λ i m. absurd (omega arith);
-          compatible = λ q m. compatible-none p (placed p starts 0 q) (placed-none p starts q);
-          served = λ q m. subst (λ (x : NumSet). fullLeast p q x < NO_RUN) (none-out starts q)
+          permits = λ i q. nobody i q;
+          compatible = λ q m. compatible-none p (outOf p (has 0) starts q) (none-out starts q);
+          served = λ q m. subst (λ (x : NumSet). fullLeast p q x < NO_RUN) (fun-ext (λ i. zero-has i ∙ sym (none-out starts q i)))
               (d .dual .roots .each q m .serves (h .served q (omega (arith, all-weeks))));
         };
         bounds = root-bounds starts xs (fr .long) (λ q m. fr .each q (omega (arith, f .weeks-are, f .weeks-most)));

@@ -16,7 +16,7 @@ use lib.Seq.{getD-set-same, getD-set-other}
 use borrow.Author.Tests.{ne-eqb}
 use Rattle.sums.specs.Sum.{sumTo, countsOne, shifted}
 use Rattle.sums.specs.Range.{someTo, firstTo}
-use Rattle.sums.specs.NumSet.{NumSet, onlyIn, power, numberOf, has}
+use Rattle.sums.specs.NumSet.{NumSet, onlyIn, power, numberOf, has, with}
 use Rattle.sums.specs.Table.{entry}
 use Rattle.sums.proofs.LogicLaws.{or-last-false, and-last-false, and-last-true, same-test, not-so}
 use Rattle.sums.proofs.SumLaws.{sum-zero, sum-cut}
@@ -27,7 +27,7 @@ use Rattle.sets.specs.Sets.{SETS}
 use Rattle.model.specs.declared.Layout.{Layout}
 use Rattle.model.specs.Problem.{Problem}
 use Rattle.model.specs.Rules.{headcount}
-use Rattle.model.specs.Schedule.{inSpan}
+use Rattle.model.specs.Schedule.{inSpan, outIn}
 use Rattle.model.specs.Commitment.{outCost}
 use Rattle.model.specs.Words.{problemOf}
 use Rattle.model.proofs.DomainLaws.{permits-from, permits-ends, span-from, span-below, span-of}
@@ -36,10 +36,9 @@ use Rattle.instance.specs.Filed.{Filed}
 use Rattle.commitment.specs.declared.Tally.{Tally}
 use Rattle.commitment.specs.Tally.{Tallies}
 use Rattle.commitment.proofs.TallyLaws.{tally-none}
-use Rattle.blame.specs.Placed.{placed, partly}
-use Rattle.blame.proofs.PlacedLaws.{placed-none, partly-all}
-use Rattle.bound.specs.Rows.{COUNTS, MOST_OUT, tallyOf, wordOf, Packs, RowJoins, Rows}
-use Rattle.bound.specs.Tests.{Due}
+use Rattle.blame.specs.Placed.{outOf, partly}
+use Rattle.blame.proofs.PlacedLaws.{out-none, partly-all}
+use Rattle.bound.specs.Rows.{COUNTS, MOST_OUT, tallyOf, wordOf, Packs, RowJoins, Rows, RowsDue, RowsWith}
 
 -- ---- sets of 16 units
 
@@ -143,11 +142,11 @@ module _ (ws : List ℕ) (l : Layout) (t i word : ℕ) (y z : Tally) (f : Filed 
 -- ---- rows before any unit is placed
 
 -- words of 0 are the tallies of nobody
-pub rows-none : (p : Problem) (starts : ℕ → ℕ) (rows : List ℕ) → rows ≡ replicate 52 0 → Rows p (placed p starts 0) rows
+pub rows-none : (p : Problem) (starts : ℕ → ℕ) (rows : List ℕ) → rows ≡ replicate 52 0 → Rows p (outOf p (has 0) starts) rows
 rows-none p starts rows e = record {
   long = ap (λ (xs : List ℕ). length xs) e ∙ length-replicate {A = ℕ} 52 0;
   tallies = λ t l. subst (λ (x : ℕ). Tallies p t (tallyOf x)) (sym (zero t)) (tally-none p t);
-  sets = λ t l i. ap (λ (x : ℕ). has (x % SETS) i) (zero t) ∙ (zero-has i ∙ sym (placed-none p starts t i));
+  sets = λ t l i. ap (λ (x : ℕ). has (x % SETS) i) (zero t) ∙ (zero-has i ∙ sym (out-none p (has 0) starts t i (zero-has i)));
 }
   where
     zero : (t : ℕ) → getD rows t 0 ≡ 0
@@ -155,7 +154,7 @@ rows-none p starts rows e = record {
 
 -- ---- a unit to be placed
 
-module _ (ws : List ℕ) (l : Layout) (rows starts : List ℕ) (j : ℕ) (f : Filed ws l) (d : Due (problemOf ws) rows (entry starts) j) where
+module _ (ws : List ℕ) (l : Layout) (rows starts : List ℕ) (j : ℕ) (f : Filed ws l) (d : RowsDue (problemOf ws) rows (entry starts) j) where
   -- it is one of the file's
   pub due-unit : j < l .units
   due-unit = omega (arith, d .unit, f .units-are)
@@ -176,7 +175,7 @@ module _ (ws : List ℕ) (l : Layout) (rows starts : List ℕ) (j : ℕ) (f : Fi
 
   -- the rows hold the tallies of its weeks
   pub due-tally : (first k weeks : ℕ) → first + weeks ≤ l .weeks → k < weeks → Tallies (problemOf ws) (first + k) (tallyOf (getD rows (first + k) 0))
-  due-tally first k weeks e b = d .tallied .tallies (first + k) (omega (arith, f .weeks-are))
+  due-tally first k weeks e b = d .tallies (first + k) (omega (arith, f .weeks-are))
 
 -- ---- rows with one unit more, a week at a time
 
@@ -188,10 +187,10 @@ pub record RowsTo (p : Problem) (rows : List ℕ) (j first k : ℕ) (next : List
       → has (getD next t 0 % SETS) i ≡ (has (getD rows t 0 % SETS) i || (eqb i j && inSpan (first + 1) k t))
 
 -- none yet
-pub rows-start : (p : Problem) (rows : List ℕ) (starts : ℕ → ℕ) (j first : ℕ) → Due p rows starts j → RowsTo p rows j first 0 rows
+pub rows-start : (p : Problem) (rows : List ℕ) (starts : ℕ → ℕ) (j first : ℕ) → RowsDue p rows starts j → RowsTo p rows j first 0 rows
 rows-start p rows starts j first d = record {
-  long = d .tallied .long;
-  tallies = d .tallied .tallies;
+  long = d .long;
+  tallies = d .tallies;
   sets = λ t l i.
       let x : inSpan (first + 1) 0 t ≡ false = not-so (inSpan (first + 1) 0 t)
       (λ e. omega (arith, span-from (first + 1) 0 t e, span-below (first + 1) 0 t e)) in
@@ -238,17 +237,26 @@ rows-next ws l rows next j first k weeks r f h end b w g = record {
         (λ s. span-of (first + 1) (k + 1) t (span-from (first + 1) k t s) (omega (arith, span-below (first + 1) k t s))) in
         rw (other t e, x) (h .sets t d i)
 
--- all weeks of its overhaul: one unit more is placed
-pub rows-ended : (ws : List ℕ) (l : Layout) (rows starts next : List ℕ) (j k weeks : ℕ) → Filed ws l → Due (problemOf ws) rows (entry starts) j
+-- all weeks of its overhaul
+pub rows-ended : (ws : List ℕ) (l : Layout) (rows starts next : List ℕ) (j k weeks : ℕ) → Filed ws l → RowsDue (problemOf ws) rows (entry starts) j
     → weeks ≡ problemOf ws .duration j → k ≤ weeks → weeks ≤ k → RowsTo (problemOf ws) rows j (getD starts j 0 - 1) k next
-    → Rows (problemOf ws) (placed (problemOf ws) (entry starts) (j + 1)) next
-unfolding partly entry
+    → RowsWith (problemOf ws) rows (entry starts) j next
+unfolding outIn entry
 rows-ended ws l rows starts next j k weeks f d e a b h = record {
   long = h .long;
   tallies = h .tallies;
   sets = λ t m i.
-      let p = problemOf ws in
-      let q : k ≡ p .duration j = omega arith in
+      let q : k ≡ problemOf ws .duration j = omega arith in
       let s : getD starts j 0 - 1 + 1 ≡ getD starts j 0 = omega (arith, due-some ws l rows starts j f d) in
-      h .sets t m i ∙ rw (d .tallied .sets t m i, q, s) (partly-all p (entry starts) j t i);
+      h .sets t m i ∙ rw (q, s);
+}
+
+-- one unit more is placed
+pub rows-joined : (p : Problem) (rows : List ℕ) (b : NumSet) (starts : ℕ → ℕ) (j : ℕ) (next : List ℕ) → Rows p (outOf p b starts) rows
+    → RowsWith p rows starts j next → Rows p (outOf p (with b j) starts) next
+unfolding partly outIn
+rows-joined p rows b starts j next h w = record {
+  long = w .long;
+  tallies = w .tallies;
+  sets = λ t m i. w .sets t m i ∙ rw (h .sets t m i) (partly-all p b starts j t i);
 }

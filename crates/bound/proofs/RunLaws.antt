@@ -1,13 +1,15 @@
 -- The runs of a schedule: the answer for a week as the run that the scan picks, the rows of all units, and a table of runs filled week by week.
 -- Assumes nothing.
 use Prim.Native.Nat.{ℕ, _+_, _%_, _≤_, _<_}
-use mathlib.Core.Path.{_≡_, sym, _∙_, ap, subst}
+use mathlib.Core.Path.{_≡_, sym, _∙_, ap, subst, fun-ext}
+use mathlib.Core.Bool.{true}
 use mathlib.Core.List.{List}
 use native.Mathlib.Omega.{arith}
-use lib.ListN.{length, getD, set}
-use borrow.Author.Tests.{lt-ltb}
+use lib.ListN.{length, getD, set, replicate}
+use borrow.Author.Tests.{lt-ltb, le-ltb}
 use Rattle.sums.specs.NumSet.{NumSet, has}
 use Rattle.sums.proofs.LoopLaws.{place-next}
+use Rattle.sums.proofs.NumSetLaws.{zero-has}
 use Rattle.sets.specs.Sets.{SETS}
 use Rattle.model.specs.declared.Layout.{Layout}
 use Rattle.model.specs.Problem.{Problem}
@@ -20,10 +22,11 @@ use Rattle.commitment.specs.declared.BestRun.{BestRun}
 use Rattle.commitment.specs.declared.BestRun.the-variants.{Nothing, Run}
 use Rattle.commitment.specs.Answers.{Answers}
 use Rattle.instance.specs.declared.Euro.{Euro}
-use Rattle.blame.specs.Placed.{placed, runOf, runAt}
-use Rattle.blame.proofs.PlacedLaws.{run-same as cost-same}
-use Rattle.bound.specs.Rows.{Rows}
-use Rattle.bound.specs.Tests.{Due, Permits, RunsOf}
+use Rattle.blame.specs.Placed.{firstUnits, outOf, runOf, runAt}
+use Rattle.blame.proofs.PlacedLaws.{first-next, run-same as cost-same}
+use Rattle.bound.specs.Rows.{Rows, RowsDue, RowsWith, RowsOfAll}
+use Rattle.bound.specs.Tests.{Permits, RunsOf}
+use Rattle.bound.proofs.RowLaws.{rows-none, rows-joined}
 
 -- ---- the answer for a week
 
@@ -61,17 +64,38 @@ run-same p t a b same = go (cheapestRun p t a) (cheapest-right p t a)
 
 -- ---- all units placed
 
+-- none yet
+pub placed-none : (p : Problem) (starts : ℕ → ℕ) (rows : List ℕ) → rows ≡ replicate 52 0 → Rows p (outOf p (firstUnits 0) starts) rows
+unfolding firstUnits
+placed-none p starts rows e =
+    subst (λ (b : NumSet). Rows p (outOf p b starts) rows) (fun-ext (λ i. zero-has i ∙ sym (le-ltb i 0 (omega arith)))) (rows-none p starts rows e)
+
 -- the next unit is to be placed
-pub due-of : (ws : List ℕ) (l : Layout) (rows : List ℕ) (starts : ℕ → ℕ) (j units : ℕ) → Filed ws l → Permits (problemOf ws) starts
-    → Rows (problemOf ws) (placed (problemOf ws) starts j) rows → units ≡ l .units → j < units → Due (problemOf ws) rows starts j
-due-of ws l rows starts j units f g h e b =
+pub placed-due : (ws : List ℕ) (l : Layout) (rows : List ℕ) (starts : ℕ → ℕ) (j units : ℕ) → Filed ws l → Permits (problemOf ws) starts
+    → Rows (problemOf ws) (outOf (problemOf ws) (firstUnits j) starts) rows → units ≡ l .units → j < units → RowsDue (problemOf ws) rows starts j
+placed-due ws l rows starts j units f g h e b =
     let u : j < problemOf ws .units = omega (arith, f .units-are) in
-    record { unit = u; permits = g .each j u; tallied = h }
+    record { unit = u; permits = g .each j u; long = h .long; tallies = h .tallies }
+
+-- it is
+pub placed-next : (p : Problem) (rows : List ℕ) (starts : ℕ → ℕ) (j : ℕ) (next : List ℕ) → Rows p (outOf p (firstUnits j) starts) rows
+    → RowsWith p rows starts j next → Rows p (outOf p (firstUnits (j + 1)) starts) next
+placed-next p rows starts j next h w =
+    subst (λ (b : NumSet). Rows p (outOf p b starts) next) (first-next j) (rows-joined p rows (firstUnits j) starts j next h w)
+
+-- the rows of all units, by any set of them that has all
+pub rows-all : (p : Problem) (rows : List ℕ) (b : NumSet) (starts : ℕ → ℕ) → Rows p (outOf p b starts) rows → ((i : ℕ) → i < p .units → b i ≡ true)
+    → RowsOfAll p starts rows
+unfolding outOf
+rows-all p rows b starts h all =
+    record { long = h .long; tallies = h .tallies; sets = λ t m i k. h .sets t m i ∙ rw (all i k) }
 
 -- all of them
-pub all-placed : (p : Problem) (rows : List ℕ) (starts : ℕ → ℕ) (j units n : ℕ) → Rows p (placed p starts j) rows → j ≤ units → units ≤ j → n ≡ units
-    → Rows p (placed p starts n) rows
-all-placed p rows starts j units n h a b e = let q : j ≡ n = omega arith in subst (λ (k : ℕ). Rows p (placed p starts k) rows) q h
+pub placed-all : (ws : List ℕ) (l : Layout) (rows : List ℕ) (starts : ℕ → ℕ) (j units : ℕ) → Filed ws l
+    → Rows (problemOf ws) (outOf (problemOf ws) (firstUnits j) starts) rows → units ≡ l .units → units ≤ j → RowsOfAll (problemOf ws) starts rows
+unfolding firstUnits
+placed-all ws l rows starts j units f h e b =
+    rows-all (problemOf ws) rows (firstUnits j) starts h (λ i k. lt-ltb i j (omega (arith, f .units-are)))
 
 -- ---- a table of runs
 
@@ -91,16 +115,11 @@ runs-next p rows table t weeks r h long b few e = record {
 }
 
 -- all of them
-pub runs-ended : (ws : List ℕ) (l : Layout) (rows table : List ℕ) (starts : ℕ → ℕ) (t weeks : ℕ) → Filed ws l
-    → Rows (problemOf ws) (placed (problemOf ws) starts (l .units)) rows → RunsTo (problemOf ws) rows t table → weeks ≡ l .weeks → weeks ≤ t
-    → RunsOf (problemOf ws) starts table
-unfolding placed runAt
+pub runs-ended : (ws : List ℕ) (l : Layout) (rows table : List ℕ) (starts : ℕ → ℕ) (t weeks : ℕ) → Filed ws l → RowsOfAll (problemOf ws) starts rows
+    → RunsTo (problemOf ws) rows t table → weeks ≡ l .weeks → weeks ≤ t → RunsOf (problemOf ws) starts table
+unfolding runAt
 runs-ended ws l rows table starts t weeks f g h e b = record {
   each = λ q m.
       let d : q < t = omega (arith, f .weeks-are) in
-      h .each q d
-      ∙ ap runOf (run-same (problemOf ws) q (has (getD rows q 0 % SETS)) (outIn (problemOf ws) starts q) (λ i k. g .sets q m i ∙ out q i k));
+      h .each q d ∙ ap runOf (run-same (problemOf ws) q (has (getD rows q 0 % SETS)) (outIn (problemOf ws) starts q) (g .sets q m));
 }
-  where
-    out : (q i : ℕ) → i < problemOf ws .units → placed (problemOf ws) starts (l .units) q i ≡ outIn (problemOf ws) starts q i
-    out q i k = rw (lt-ltb i (l .units) (omega (arith, f .units-are)))

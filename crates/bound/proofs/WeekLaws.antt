@@ -14,17 +14,14 @@ use Rattle.sums.proofs.NumSetLaws.{zero-has}
 use Rattle.sets.specs.Sets.{SETS}
 use Rattle.model.specs.declared.Layout.{Layout}
 use Rattle.model.specs.Pairs.{apart}
-use Rattle.model.specs.Rules.{headcount}
 use Rattle.model.specs.Schedule.{outIn}
-use Rattle.model.specs.Commitment.{NO_RUN, fullLeast}
-use Rattle.model.specs.Plan.{Compatible}
+use Rattle.model.specs.Commitment.{NO_RUN}
 use Rattle.model.specs.Words.{problemOf}
 use Rattle.model.proofs.FileLaws.{ranged, fair}
 use Rattle.instance.specs.Filed.{Filed}
 use Rattle.commitment.specs.declared.Tally.{Tally}
 use Rattle.commitment.specs.Tally.{Tallies}
 use Rattle.blame.specs.Closed.{Closed}
-use Rattle.blame.specs.Priced.{WeekLeast}
 use Rattle.blame.proofs.PairLaws.{compatible-joined}
 use Rattle.blame.proofs.ClosedLaws.{crews-closed, pair-closed, demand-closed}
 use Rattle.tables.specs.Tables.{partnersIn}
@@ -67,7 +64,7 @@ module _ (ws : List ℕ) (l : Layout) (us : List ℕ) (t : ℕ) (y : Tally) (at 
 -- ---- the excluded pairs
 
 module _ (ws : List ℕ) (l : Layout) (us : List ℕ) (j t word partners both : ℕ) (y : Tally) (at : WeekAt ws l us t) (unit : j < l .units)
-    (d : WeekDue (problemOf ws) j t word) (e : y ≡ tallyOf word) (is : partners ≡ partnersIn us j)
+    (d : WeekDue (problemOf ws) t word) (e : y ≡ tallyOf word) (is : partners ≡ partnersIn us j)
     (meet : (k : ℕ) → has both k ≡ (has (y .out) k && has partners k)) where
   file : Filed ws l
   file = at .filed
@@ -104,7 +101,7 @@ module _ (ws : List ℕ) (l : Layout) (us : List ℕ) (j t word partners both : 
       closed starts outs limit =
           let i = m .unit in
           let o = and-left (has (word % SETS) i) (has partners i) in-both in
-          let k : i < problemOf ws .units = omega (arith, d .within i o, own-unit) in
+          let k = d .within i o in
           let pair : apart (problemOf ws) j i ≡ true = sym (partners-is i) ∙ and-right (has (word % SETS) i) (has partners i) in-both in
           pair-closed (problemOf ws) (has r) starts t (fair ws (file .passed)) (omega (arith, at .week, file .weeks-are)) (λ n _. outs n) j i own-unit k pair
           (with-j j ∙ or-right (has both j) (eqb j j) (eq-eqb j j refl)) (with-j i ∙ or-left (has both i) (eqb i j) (m .holds)) limit

@@ -2,13 +2,15 @@
 -- Assumes nothing.
 use Prim.Native.Nat.{ℕ, _+_, _*_, _/_, _%_, _≤_, _<_}
 use mathlib.Core.Path.{_≡_}
-use mathlib.Core.Bool.{_||_}
+use mathlib.Core.Bool.{true, _&&_, _||_}
 use mathlib.Core.List.{List}
 use lib.ListN.{length, getD}
 use lib.Dec.{eqb}
 use Rattle.sums.specs.NumSet.{NumSet, has}
 use Rattle.sets.specs.Sets.{SETS}
 use Rattle.model.specs.Problem.{Problem}
+use Rattle.model.specs.Domain.{permitted}
+use Rattle.model.specs.Schedule.{outIn}
 use Rattle.commitment.specs.declared.Tally.{Tally}
 use Rattle.commitment.specs.Tally.{Tallies}
 
@@ -47,3 +49,22 @@ pub record Rows (p : Problem) (out : ℕ → NumSet) (rows : List ℕ) : Type 0 
   pub long : length rows ≡ 52
   pub tallies : (t : ℕ) → t < p .weeks → Tallies p t (tallyOf (getD rows t 0))
   pub sets : (t : ℕ) → t < p .weeks → (i : ℕ) → has (getD rows t 0 % SETS) i ≡ out t i
+
+-- unit j is one of the problem's, at its permitted start, and the words are those of tallies
+pub record RowsDue (p : Problem) (rows : List ℕ) (starts : ℕ → ℕ) (j : ℕ) : Type 0 where
+  pub unit : j < p .units
+  pub permits : permitted p j (starts j) ≡ true
+  pub long : length rows ≡ 52
+  pub tallies : (t : ℕ) → t < p .weeks → Tallies p t (tallyOf (getD rows t 0))
+
+-- the same rows with unit j out in the weeks of its overhaul
+pub record RowsWith (p : Problem) (rows : List ℕ) (starts : ℕ → ℕ) (j : ℕ) (next : List ℕ) : Type 0 where
+  pub long : length next ≡ 52
+  pub tallies : (t : ℕ) → t < p .weeks → Tallies p t (tallyOf (getD next t 0))
+  pub sets : (t : ℕ) → t < p .weeks → (i : ℕ) → has (getD next t 0 % SETS) i ≡ (has (getD rows t 0 % SETS) i || (eqb i j && outIn p starts t j))
+
+-- the rows of all units at these starts
+pub record RowsOfAll (p : Problem) (starts : ℕ → ℕ) (rows : List ℕ) : Type 0 where
+  pub long : length rows ≡ 52
+  pub tallies : (t : ℕ) → t < p .weeks → Tallies p t (tallyOf (getD rows t 0))
+  pub sets : (t : ℕ) → t < p .weeks → (i : ℕ) → i < p .units → has (getD rows t 0 % SETS) i ≡ outIn p starts t i

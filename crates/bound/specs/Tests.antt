@@ -2,7 +2,7 @@
 -- Assumes nothing.
 use Prim.Native.Nat.{ℕ, _+_, _-_, _%_, _≤_, _<_}
 use mathlib.Core.Path.{_≡_}
-use mathlib.Core.Bool.{Bool, true}
+use mathlib.Core.Bool.{Bool, true, false}
 use mathlib.Core.List.{List}
 use lib.ListN.{length, getD}
 use lib.Dec.{eqb}
@@ -22,13 +22,13 @@ use Rattle.model.specs.Words.{problemOf}
 use Rattle.instance.specs.Filed.{Filed}
 use Rattle.commitment.specs.Tally.{Tallies}
 use Rattle.blame.specs.Closed.{Closed}
-use Rattle.blame.specs.Placed.{firstUnits, placed, partly, Standing, runAt}
+use Rattle.blame.specs.Placed.{outOf, partly, Standing, runAt}
 use Rattle.blame.specs.Priced.{WeekLeast}
 use Rattle.tables.specs.Tables.{priceIn, excessIn, rootIn, totalIn}
 use Rattle.relaxation.specs.Relaxed.{MemoTrue}
 use Rattle.dual.specs.declared.Node.{Node}
 use Rattle.dual.specs.Dual.{Dual, Bounds}
-use Rattle.dual.specs.Blame.{PermitsTo, withBound}
+use Rattle.dual.specs.Blame.{placedAfter, PermitsOf, withBound}
 use Rattle.bound.specs.Rows.{tallyOf, Rows}
 use Rattle.bound.specs.declared.Trial.{Trial}
 use Rattle.bound.specs.declared.Trial.the-variants.{Holds, Fails}
@@ -45,14 +45,14 @@ MOST_BOUND = 18253611008
 
 -- ---- dead ends
 
--- the starts of the units of b, all below k, are a dead end below the limit
-pub record Blames (p : Problem) (starts : ℕ → ℕ) (k limit b : ℕ) : Type 0 where
+-- the starts of the units of b, all of a, are a dead end below the limit
+pub record Blames (p : Problem) (a : NumSet) (starts : ℕ → ℕ) (limit b : ℕ) : Type 0 where
   pub closed : Closed p (has b) starts limit
-  pub within : (i : ℕ) → has b i ≡ true → i < k
+  pub within : (i : ℕ) → has b i ≡ true → a i ≡ true
 
--- the starts of these units, all below k, are a dead end below every limit: no sound schedule has them
-pub record Shuts (p : Problem) (starts : ℕ → ℕ) (k b : ℕ) : Type 0 where
-  pub blames : (limit : ℕ) → Blames p starts k limit b
+-- the starts of these units, all of a, are a dead end below every limit: no sound schedule has them
+pub record Shuts (p : Problem) (a : NumSet) (starts : ℕ → ℕ) (b : ℕ) : Type 0 where
+  pub blames : (limit : ℕ) → Blames p a starts limit b
 
 -- the units of b may not be out together in week t: starts that say so are a dead end below every limit
 pub record OutShuts (p : Problem) (t b : ℕ) : Type 0 where
@@ -60,10 +60,10 @@ pub record OutShuts (p : Problem) (t b : ℕ) : Type 0 where
 
 -- ---- a week
 
--- week t of unit j's overhaul: a word with the tally of the units out, all below j, who may be out together
-pub record WeekDue (p : Problem) (j t word : ℕ) : Type 0 where
+-- a word of week t with the tally of the units out, all of the problem, who may be out together
+pub record WeekDue (p : Problem) (t word : ℕ) : Type 0 where
   pub tally : Tallies p t (tallyOf word)
-  pub within : (i : ℕ) → has (word % SETS) i ≡ true → i < j
+  pub within : (i : ℕ) → has (word % SETS) i ≡ true → i < p .units
   pub compatible : Compatible p (has (word % SETS))
 
 -- there are crews for the units out in week t, the others leave a run, and the week is worth at least v
@@ -97,11 +97,13 @@ WeekTested p u j t word (Fails b) = WeekShuts p (has (word % SETS)) j t b
 
 -- ---- the weeks of an overhaul
 
--- unit j is to be placed at its permitted start; the rows hold the units below it
-pub record Due (p : Problem) (rows : List ℕ) (starts : ℕ → ℕ) (j : ℕ) : Type 0 where
+-- unit j is to be placed at its permitted start, after the units of a, whom the rows hold
+pub record Due (p : Problem) (rows : List ℕ) (a : NumSet) (starts : ℕ → ℕ) (j : ℕ) : Type 0 where
   pub unit : j < p .units
   pub permits : permitted p j (starts j) ≡ true
-  pub tallied : Rows p (placed p starts j) rows
+  pub fresh : a j ≡ false
+  pub within : (i : ℕ) → a i ≡ true → i < p .units
+  pub tallied : Rows p (outOf p a starts) rows
 
 -- the node's unit is one of the problem's, at a permitted start
 pub record StartPermitted (p : Problem) (node : Node) : Type 0 where
@@ -115,32 +117,32 @@ pub record OverhaulWeeks (p : Problem) (node : Node) (first end : ℕ) : Type 0 
   pub season : end ≤ p .weeks
 
 -- unit j out in the weeks of its overhaul before week t: in each week the units out may be out together and leave a run, and r is a lower bound
-pub record TestedTo (p : Problem) (us : List ℕ) (starts : ℕ → ℕ) (j t : ℕ) (xs : List ℕ) (r : ℕ) : Type 0 where
-  pub compatible : (q : ℕ) → q < p .weeks → Compatible p (partly p starts j (t + 1 - starts j) q)
-  pub served : (q : ℕ) → q < p .weeks → fullLeast p q (partly p starts j (t + 1 - starts j) q) < NO_RUN
-  pub bounds : Bounds p us (firstUnits (j + 1)) starts xs r
+pub record TestedTo (p : Problem) (us : List ℕ) (a : NumSet) (starts : ℕ → ℕ) (j t : ℕ) (xs : List ℕ) (r : ℕ) : Type 0 where
+  pub compatible : (q : ℕ) → q < p .weeks → Compatible p (partly p a starts j (t + 1 - starts j) q)
+  pub served : (q : ℕ) → q < p .weeks → fullLeast p q (partly p a starts j (t + 1 - starts j) q) < NO_RUN
+  pub bounds : Bounds p us (with a j) starts xs r
 
 -- week t as well, or a dead end below every limit
-abbrev pub WeeksTested : Problem → (us : List ℕ) → (starts : ℕ → ℕ) → (j t : ℕ) → List ℕ → Trial → Type 0
-WeeksTested p us starts j t xs (Holds r) = TestedTo p us starts j (t + 1) xs (r .0)
-WeeksTested p us starts j t xs (Fails b) = Shuts p starts (j + 1) b
+abbrev pub WeeksTested : Problem → (us : List ℕ) → (a : NumSet) → (starts : ℕ → ℕ) → (j t : ℕ) → List ℕ → Trial → Type 0
+WeeksTested p us a starts j t xs (Holds r) = TestedTo p us a starts j (t + 1) xs (r .0)
+WeeksTested p us a starts j t xs (Fails b) = Shuts p (with a j) starts b
 
 -- the test of the weeks of unit j's overhaul, as far as the bound stays below what is wanted
-abbrev pub Tested : Problem → (us : List ℕ) → (starts : ℕ → ℕ) → (j wanted : ℕ) → List ℕ → Trial → Type 0
-Tested p us starts j wanted xs (Holds r) = Bounds p us (firstUnits (j + 1)) starts xs (r .0) × (r .0 < wanted → Standing p starts (j + 1))
-Tested p us starts j wanted xs (Fails b) = Shuts p starts (j + 1) b
+abbrev pub Tested : Problem → (us : List ℕ) → (a : NumSet) → (starts : ℕ → ℕ) → (j wanted : ℕ) → List ℕ → Trial → Type 0
+Tested p us a starts j wanted xs (Holds r) = Bounds p us (with a j) starts xs (r .0) × (r .0 < wanted → Standing p (with a j) starts)
+Tested p us a starts j wanted xs (Fails b) = Shuts p (with a j) starts b
 
 -- ---- a start
 
--- the first k units stand, and r is a lower bound of all schedules with their starts, by the weeks' values
-pub record Stands (p : Problem) (us : List ℕ) (starts : ℕ → ℕ) (k : ℕ) (xs : List ℕ) (r : ℕ) : Type 0 where
-  pub standing : Standing p starts k
-  pub bounds : Bounds p us (firstUnits k) starts xs r
+-- the units of a stand, and r is a lower bound of all schedules with their starts, by the weeks' values
+pub record Stands (p : Problem) (us : List ℕ) (a : NumSet) (starts : ℕ → ℕ) (xs : List ℕ) (r : ℕ) : Type 0 where
+  pub standing : Standing p a starts
+  pub bounds : Bounds p us a starts xs r
 
 -- a start is judged: one unit more stands; or some of them are a dead end
 abbrev pub Judged : Problem → (us : List ℕ) → Node → (limit : ℕ) → List ℕ → Trial → Type 0
-Judged p us node limit xs (Holds r) = Stands p us (entry (node .starts)) (node .unit + 1) xs (r .0)
-Judged p us node limit xs (Fails b) = Blames p (entry (node .starts)) (node .unit + 1) limit b
+Judged p us node limit xs (Holds r) = Stands p us (placedAfter node) (entry (node .starts)) xs (r .0)
+Judged p us node limit xs (Fails b) = Blames p (placedAfter node) (entry (node .starts)) limit b
 
 -- ---- what the functions ask
 
@@ -154,25 +156,25 @@ pub record StartBounded (node : Node) : Type 0 where
 abbrev pub withStart : List ℕ → Node → Node
 withStart us node = withBound node (record { 0 = node .bound .0 + excessIn us (node .unit) (entry (node .starts) (node .unit)) })
 
--- before the weeks of an overhaul: the node's unit is due, those below it stand, and the node's bound has its start in it
+-- before the weeks of an overhaul: the node's unit is due, those placed stand, and the node's bound has its start in it
 pub record StartDue (ws : List ℕ) (l : Layout) (us rows : List ℕ) (node : Node) (xs memo : List ℕ) : Type 0 where
   pub filed : Filed ws l
   pub dual : Dual (problemOf ws) us
-  pub due : Due (problemOf ws) rows (entry (node .starts)) (node .unit)
-  pub standing : Standing (problemOf ws) (entry (node .starts)) (node .unit)
-  pub bounds : Bounds (problemOf ws) us (firstUnits (node .unit + 1)) (entry (node .starts)) xs (node .bound .0)
+  pub due : Due (problemOf ws) rows (has (node .placed)) (entry (node .starts)) (node .unit)
+  pub standing : Standing (problemOf ws) (has (node .placed)) (entry (node .starts))
+  pub bounds : Bounds (problemOf ws) us (placedAfter node) (entry (node .starts)) xs (node .bound .0)
   pub recalls : MemoTrue (problemOf ws) (priceIn us) memo
 
 -- before week t of it: the weeks before are tested, at the node's bound
 pub record WeeksDue (ws : List ℕ) (l : Layout) (us rows : List ℕ) (node : Node) (t : ℕ) (xs memo : List ℕ) : Type 0 where
   pub filed : Filed ws l
   pub dual : Dual (problemOf ws) us
-  pub due : Due (problemOf ws) rows (entry (node .starts)) (node .unit)
-  pub standing : Standing (problemOf ws) (entry (node .starts)) (node .unit)
+  pub due : Due (problemOf ws) rows (has (node .placed)) (entry (node .starts)) (node .unit)
+  pub standing : Standing (problemOf ws) (has (node .placed)) (entry (node .starts))
   pub from : entry (node .starts) (node .unit) ≤ t + 1
   pub before : t + 1 < entry (node .starts) (node .unit) + problemOf ws .duration (node .unit)
   pub season : t < l .weeks
-  pub tested : TestedTo (problemOf ws) us (entry (node .starts)) (node .unit) t xs (node .bound .0)
+  pub tested : TestedTo (problemOf ws) us (has (node .placed)) (entry (node .starts)) (node .unit) t xs (node .bound .0)
   pub recalls : MemoTrue (problemOf ws) (priceIn us) memo
 
 -- a verdict of the weeks that is to be weighed against a limit
@@ -180,16 +182,16 @@ pub record Weighing (ws : List ℕ) (l : Layout) (us : List ℕ) (node : Node) (
   pub filed : Filed ws l
   pub dual : Dual (problemOf ws) us
   pub unit : node .unit < l .units
-  pub permits : PermitsTo (problemOf ws) (entry (node .starts)) (node .unit + 1)
-  pub tested : Tested (problemOf ws) us (entry (node .starts)) (node .unit) (limit + totalIn us) xs v
+  pub permits : PermitsOf (problemOf ws) (placedAfter node) (entry (node .starts))
+  pub tested : Tested (problemOf ws) us (has (node .placed)) (entry (node .starts)) (node .unit) (limit + totalIn us) xs v
   pub small : limit ≤ MOST_LIMIT
 
--- before the start of the node's unit is tested: those below it stand at the node's bound
+-- before the start of the node's unit is tested: those placed stand at the node's bound
 pub record TestDue (ws : List ℕ) (l : Layout) (us rows : List ℕ) (node : Node) (limit : ℕ) (xs memo : List ℕ) : Type 0 where
   pub filed : Filed ws l
   pub dual : Dual (problemOf ws) us
-  pub due : Due (problemOf ws) rows (entry (node .starts)) (node .unit)
-  pub stands : Stands (problemOf ws) us (entry (node .starts)) (node .unit) xs (node .bound .0)
+  pub due : Due (problemOf ws) rows (has (node .placed)) (entry (node .starts)) (node .unit)
+  pub stands : Stands (problemOf ws) us (has (node .placed)) (entry (node .starts)) xs (node .bound .0)
   pub small : limit ≤ MOST_LIMIT
   pub recalls : MemoTrue (problemOf ws) (priceIn us) memo
 
@@ -203,11 +205,11 @@ pub record RootDue (ws : List ℕ) (l : Layout) (us : List ℕ) (limit : ℕ) : 
 
 -- r is a lower bound, whatever the starts
 pub record AllStand (p : Problem) (us xs : List ℕ) (r : ℕ) : Type 0 where
-  pub each : (starts : ℕ → ℕ) → Stands p us starts 0 xs r
+  pub each : (starts : ℕ → ℕ) → Stands p us (has 0) starts xs r
 
 -- nothing is left below the limit
 pub record AllBlame (p : Problem) (limit b : ℕ) : Type 0 where
-  pub each : (starts : ℕ → ℕ) → Blames p starts 0 limit b
+  pub each : (starts : ℕ → ℕ) → Blames p (has 0) starts limit b
 
 -- the weeks' values with nobody out
 pub record RootValues (us xs : List ℕ) : Type 0 where

@@ -16,16 +16,17 @@ ghost use Rattle.sums.specs.Sum.{sumTo};
 ghost use Rattle.sums.specs.NumSet.{has};
 ghost use Rattle.sums.specs.Table.{entry};
 ghost use Rattle.sets.specs.Sets.{SETS};
+ghost use Rattle.model.specs.Schedule.{outIn};
 ghost use Rattle.model.specs.Words.{problemOf};
 ghost use Rattle.model.specs.Commitment.{outCost, leastCost, cheapestRun};
 ghost use Rattle.instance.specs.Filed.{Filed};
 ghost use Rattle.commitment.specs.Tally.{Tallies};
 ghost use Rattle.memo.specs.Memo.{Right, Others};
-ghost use Rattle.blame.specs.Placed.{placed, paid, runOf};
+ghost use Rattle.blame.specs.Placed.{paid, runOf};
 ghost use Rattle.tables.specs.Tables.{priceIn, leastIn};
 ghost use Rattle.relaxation.specs.Relaxed.{MemoTrue};
-ghost use Rattle.bound.specs.Rows.{MOST_WEEK, tallyOf, Rows};
-ghost use Rattle.bound.specs.Tests.{Due, Judged, RootValues, Rooted};
+ghost use Rattle.bound.specs.Rows.{MOST_WEEK, tallyOf, RowsDue, RowsWith, RowsOfAll};
+ghost use Rattle.bound.specs.Tests.{Judged, RootValues, Rooted};
 ghost use Rattle.bound.specs.Tests.{StartBounded, withStart, Weighing, TestDue, RootDue};
 ghost use Rattle.bound.specs.Tests.{MOST_LEAST, someStartless, Permits, RunsOf};
 
@@ -48,8 +49,8 @@ pub fn placed_rows(
     starts: [u8; 16],
     j: usize,
 ) -> [u64; 52]
-    requires { ⌜ Filed (now words) l × Due (problemOf (now words)) (now rows) (entry starts) j ⌝ }
-    ensures { λ r. ⌜ Rows (problemOf (now (words .entry))) (placed (problemOf (now (words .entry))) (entry starts) (j + 1)) r ⌝ }
+    requires { ⌜ Filed (now words) l × RowsDue (problemOf (now words)) (now rows) (entry starts) j ⌝ }
+    ensures { λ r. ⌜ RowsWith (problemOf (now (words .entry))) (now (rows .entry)) (entry starts) j r ⌝ }
 {
     let first = starts[j] as usize - 1;
     let weeks = instance::duration(words, l, j);
@@ -107,8 +108,8 @@ fn weigh(
     }
 }
 
-// Unit j at its start, with the units below it as the rows have them: the rules in the weeks of its overhaul, and the lower bound. The values of the
-// weeks are those without the unit before, and those with it after where it holds (D56).
+// The node's unit at its start, with the units placed as the rows have them: the rules in the weeks of its overhaul, and the lower bound. The values
+// of the weeks are those without the unit before, and those with it after where it holds (D56).
 pub fn test(
     words: &[u32],
     l: Layout,
@@ -208,9 +209,8 @@ fn tally_cost(words: &[u32], l: Layout, t: usize, word: u64, memo: &mut [u32]) -
 
 // What all weeks cost with the units of the rows out.
 pub fn cost(words: &[u32], l: Layout, rows: &[u64; 52], starts: [u8; 16], memo: &mut [u32]) -> Euro
-    requires { ⌜ Filed (now words) l × Rows (problemOf (now words)) (placed (problemOf (now words)) (entry starts) (l .units)) (now rows)
-        × Right (problemOf (now words)) (now memo) ⌝ }
-    ensures answer { λ r. ⌜ r .0 ≡ paid (problemOf (now (words .entry))) (placed (problemOf (now (words .entry))) (entry starts) (l .units)) ⌝ }
+    requires { ⌜ Filed (now words) l × RowsOfAll (problemOf (now words)) (entry starts) (now rows) × Right (problemOf (now words)) (now memo) ⌝ }
+    ensures answer { λ r. ⌜ r .0 ≡ paid (problemOf (now (words .entry))) (outIn (problemOf (now (words .entry))) (entry starts)) ⌝ }
     ensures right { λ r. ⌜ Right (problemOf (now (words .entry))) (now (memo .exit)) × Others (now (memo .entry)) (now (memo .exit)) ⌝ }
 {
     let weeks = l.weeks;
@@ -238,7 +238,7 @@ fn run_of(words: &[u32], l: Layout, t: usize, word: u64) -> u32
 // The rows with all units placed at these starts.
 fn all_rows(words: &[u32], l: Layout, starts: [u8; 16]) -> [u64; 52]
     requires { ⌜ Filed (now words) l × Permits (problemOf (now words)) (entry starts) ⌝ }
-    ensures { λ r. ⌜ Rows (problemOf (now (words .entry))) (placed (problemOf (now (words .entry))) (entry starts) (l .units)) r ⌝ }
+    ensures { λ r. ⌜ RowsOfAll (problemOf (now (words .entry))) (entry starts) r ⌝ }
 {
     let units = l.units;
     let mut rows = no_rows();

@@ -10,6 +10,7 @@ use tables::TABLES;
 ghost use mathlib.Core.Path.{_≡_};
 ghost use Prim.Native.Nat.{_+_, _-_, _<_, _≤_};
 ghost use lib.ListN.{length, getD, set};
+ghost use Rattle.sums.specs.NumSet.{has};
 ghost use Rattle.sums.specs.Table.{entry};
 ghost use Rattle.model.specs.Words.{problemOf};
 ghost use Rattle.model.specs.Commitment.{NO_RUN};
@@ -78,7 +79,7 @@ fn test_week(
     word: u64,
     memo: &mut [u32],
 ) -> Trial
-    requires { ⌜ WeekAt (now words) l (now tables) t × (j < l .units) × WeekDue (problemOf (now words)) j t word
+    requires { ⌜ WeekAt (now words) l (now tables) t × (j < l .units) × WeekDue (problemOf (now words)) t word
         × MemoTrue (problemOf (now words)) (priceIn (now tables)) (now memo) ⌝ }
     ensures answer { λ r. ⌜ WeekTested (problemOf (now (words .entry))) (priceIn (now (tables .entry))) j t word r ⌝ }
     ensures recalls { λ r. ⌜ MemoTrue (problemOf (now (words .entry))) (priceIn (now (tables .entry))) (now (memo .exit)) ⌝ }
@@ -122,7 +123,7 @@ fn test_next(
     memo: &mut [u32],
 ) -> Trial
     requires { ⌜ WeeksDue (now words) l (now tables) (now rows) node t (now values) (now memo) ⌝ }
-    ensures answer { λ r. ⌜ WeeksTested (problemOf (now (words .entry))) (now (tables .entry)) (entry (node .starts)) (node .unit) t (now (values .exit)) r ⌝ }
+    ensures answer { λ r. ⌜ WeeksTested (problemOf (now (words .entry))) (now (tables .entry)) (has (node .placed)) (entry (node .starts)) (node .unit) t (now (values .exit)) r ⌝ }
     ensures recalls { λ r. ⌜ MemoTrue (problemOf (now (words .entry))) (priceIn (now (tables .entry))) (now (memo .exit)) ⌝ }
 {
     let v = test_week(words, l, tables, node.unit, t, rows[t], memo);
@@ -149,8 +150,8 @@ pub fn test_weeks(
     memo: &mut [u32],
 ) -> Trial
     requires { ⌜ StartDue (now words) l (now tables) (now rows) node (now values) (now memo) ⌝ }
-    ensures answer { λ r. ⌜ Tested (problemOf (now (words .entry))) (now (tables .entry)) (entry (node .starts)) (node .unit) (wanted .0)
-        (now (values .exit)) r ⌝ }
+    ensures answer { λ r. ⌜ Tested (problemOf (now (words .entry))) (now (tables .entry)) (has (node .placed)) (entry (node .starts)) (node .unit)
+        (wanted .0) (now (values .exit)) r ⌝ }
     ensures recalls { λ r. ⌜ MemoTrue (problemOf (now (words .entry))) (priceIn (now (tables .entry))) (now (memo .exit)) ⌝ }
 {
     let weeks = overhaul_weeks(words, l, node);

@@ -1,15 +1,14 @@
 -- Fewer units to blame: what the bound loses without a unit, the weeks put back, and units dropped one after the other.
 -- Assumes nothing.
 use Prim.Native.Nat.{ℕ, _+_, _-_, _≤_, _<_}
-use mathlib.Core.Path.{_≡_, refl, sym, _∙_, ap, subst, fun-ext}
-use mathlib.Core.Bool.{true, false, not, _&&_}
+use mathlib.Core.Path.{_≡_, refl, sym, _∙_, ap, subst}
+use mathlib.Core.Bool.{Bool, true, false, not, _&&_}
 use mathlib.Core.List.{List}
 use native.Mathlib.Decide.{ℕ-discrete, decLt}
 use native.Mathlib.Omega.{arith}
-use lib.Dec.{eqb, ltb}
+use lib.Dec.{eqb}
 use lib.ListN.{length, getD, set, length-set}
 use lib.Seq.{getD-set-same, getD-set-other}
-use borrow.Author.Tests.{ltb-true}
 use Rattle.sums.specs.Sum.{sumTo, shifted}
 use Rattle.sums.specs.NumSet.{NumSet, has}
 use Rattle.sums.specs.Table.{entry}
@@ -24,12 +23,11 @@ use Rattle.model.proofs.DomainLaws.{permits-ends, span-from, span-below, span-o
 use Rattle.model.proofs.FileLaws.{fair}
 use Rattle.instance.specs.Filed.{Filed}
 use Rattle.overhaul.proofs.UpkeepLaws.{start-some, ends-within}
-use Rattle.blame.specs.Placed.{firstUnits}
 use Rattle.tables.specs.Tables.{excessIn, rootIn, totalIn}
 use Rattle.dual.specs.declared.BlameLeft.{BlameLeft}
 use Rattle.dual.specs.declared.Node.{Node}
 use Rattle.dual.specs.Dual.{Dual, Bounds}
-use Rattle.dual.specs.Blame.{MOST_WANTED, PermitsTo, Bounded, Blamed, gainIn, lossOf, BackTo, PutBack, ShrinksTo, Shrunk, OverhaulAt, Dropping, Dropped}
+use Rattle.dual.specs.Blame.{MOST_WANTED, PermitsOf, Bounded, Blamed, gainIn, lossOf, BackTo, PutBack, ShrinksTo, Shrunk, OverhaulAt, Dropping, MayDrop, Dropped}
 use Rattle.dual.proofs.BoundsLaws.{bounds-closed, bounds-dropped}
 
 -- ---- a unit's start
@@ -171,60 +169,62 @@ dropped-one ws l us starts xs ys i wanted v kept r d el le back without ev =
         bounds-dropped p us (has (kept .units)) (has (r .units)) (entry starts) xs ys i (kept .sum .0) (fair ws (f .passed)) (d .dual .costs) (d .dual .roots)
         (omega (arith, d .at .unit, f .units-are)) (d .at .permits) without back (d .thins .bounds)
 
+-- one of those kept
+pub may-drop : (ws : List ℕ) (l : Layout) (us starts xs : List ℕ) (i wanted : ℕ) (kept : BlameLeft) (one : Bool)
+    → MayDrop ws l us starts i wanted kept xs → one ≡ has (kept .units) i → one ≡ true → Dropping ws l us starts i wanted kept xs
+may-drop ws l us starts xs i wanted kept one d is so = d .dropping (sym is ∙ so)
+
 -- ---- units dropped in turn
 
--- from unit i on, of the first k units
-pub record Thinning (ws : List ℕ) (l : Layout) (us starts : List ℕ) (k wanted i : ℕ) (kept : BlameLeft) (xs : List ℕ) : Type 0 where
+-- from unit i on, of the units of b
+pub record Thinning (ws : List ℕ) (l : Layout) (us : List ℕ) (b : NumSet) (starts : List ℕ) (wanted i : ℕ) (kept : BlameLeft) (xs : List ℕ) : Type 0 where
   pub filed : Filed ws l
   pub dual : Dual (problemOf ws) us
-  pub placed : k ≤ l .units
-  pub permits : PermitsTo (problemOf ws) (entry starts) (k)
+  pub permits : PermitsOf (problemOf ws) b (entry starts)
   pub few : wanted ≤ MOST_WANTED
   pub thins : ShrinksTo (problemOf ws) us (entry starts) wanted kept xs
-  pub within : (n : ℕ) → has (kept .units) n ≡ true → n < k
-  pub places : i ≤ k
+  pub within : (n : ℕ) → has (kept .units) n ≡ true → b n ≡ true
+  pub places : i ≤ l .units
 
 -- none yet
-pub thinning-start : (ws : List ℕ) (l : Layout) (us : List ℕ) (node : Node) (wanted b : ℕ) (xs : List ℕ) → Bounded ws l us node xs
-    → wanted ≤ node .bound .0 → wanted ≤ MOST_WANTED → ((n : ℕ) → has b n ≡ ltb n (node .unit))
-    → Thinning ws l us (node .starts) (node .unit) wanted (node .unit) (record { units = b; sum = node .bound }) xs
-unfolding firstUnits
-thinning-start ws l us node wanted b xs h le few all = record {
+pub thinning-start : (ws : List ℕ) (l : Layout) (us : List ℕ) (node : Node) (wanted : ℕ) (xs : List ℕ) → Bounded ws l us node xs
+    → wanted ≤ node .bound .0 → wanted ≤ MOST_WANTED
+    → Thinning ws l us (has (node .placed)) (node .starts) wanted (l .units) (record { units = node .placed; sum = node .bound }) xs
+thinning-start ws l us node wanted xs h le few = record {
   filed = h .filed;
   dual = h .dual;
-  placed = h .placed;
   permits = h .permits;
   few = few;
-  thins = record {
-    bounds = subst (λ (a : NumSet). Bounds (problemOf ws) us a (entry (node .starts)) xs (node .bound .0)) (sym (fun-ext all)) (h .bounds);
-    reaches = le;
-  };
-  within = λ n q. ltb-true n (node .unit) (sym (all n) ∙ q);
+  thins = record { bounds = h .bounds; reaches = le };
+  within = λ n q. q;
   places = omega arith;
 }
 
-module _ (ws : List ℕ) (l : Layout) (us starts : List ℕ) (k wanted i j : ℕ) (kept : BlameLeft) (xs : List ℕ)
-    (h : Thinning ws l us starts k wanted i kept xs) (e : j ≡ i - 1) where
+module _ (ws : List ℕ) (l : Layout) (us : List ℕ) (b : NumSet) (starts : List ℕ) (wanted i j : ℕ) (kept : BlameLeft) (xs : List ℕ)
+    (h : Thinning ws l us b starts wanted i kept xs) (e : j ≡ i - 1) where
   -- the next unit may be dropped
-  pub thinning-drops : 0 < i → Dropping ws l us starts j wanted kept xs
+  pub thinning-drops : 0 < i → MayDrop ws l us starts j wanted kept xs
   thinning-drops some = record {
-    at = record {
-      filed = h .filed;
-      unit = omega (arith, h .places, h .placed);
-      permits = h .permits .each j (omega (arith, h .places));
-      long = h .thins .bounds .values .long;
-    };
-    dual = h .dual;
-    few = h .few;
+    unit = omega (arith, h .places, h .filed .units-most);
     thins = h .thins;
+    dropping = λ q. record {
+      at = record {
+        filed = h .filed;
+        unit = omega (arith, h .places);
+        permits = h .permits .each j (h .within j q);
+        long = h .thins .bounds .values .long;
+      };
+      dual = h .dual;
+      few = h .few;
+      thins = h .thins;
+    };
   }
 
   -- it was, or not
-  pub thinning-next : (r : BlameLeft) (ys : List ℕ) → Dropped (problemOf ws) us (entry starts) wanted kept r ys → Thinning ws l us starts k wanted j r ys
+  pub thinning-next : (r : BlameLeft) (ys : List ℕ) → Dropped (problemOf ws) us (entry starts) wanted kept r ys → Thinning ws l us b starts wanted j r ys
   thinning-next r ys t = record {
     filed = h .filed;
     dual = h .dual;
-    placed = h .placed;
     permits = h .permits;
     few = h .few;
     thins = t .thins;
@@ -233,17 +233,17 @@ module _ (ws : List ℕ) (l : Layout) (us starts : List ℕ) (k wanted i j : ℕ
   }
 
 -- all were tried
-pub thinning-ended : (ws : List ℕ) (l : Layout) (us starts : List ℕ) (k wanted i : ℕ) (kept : BlameLeft) (xs : List ℕ)
-    → Thinning ws l us starts k wanted i kept xs → Shrunk (problemOf ws) us (entry starts) k wanted kept
-thinning-ended ws l us starts k wanted i kept xs h = record { xs = xs; thins = h .thins; within = h .within }
+pub thinning-ended : (ws : List ℕ) (l : Layout) (us : List ℕ) (b : NumSet) (starts : List ℕ) (wanted i : ℕ) (kept : BlameLeft) (xs : List ℕ)
+    → Thinning ws l us b starts wanted i kept xs → Shrunk (problemOf ws) us b (entry starts) wanted kept
+thinning-ended ws l us b starts wanted i kept xs h = record { xs = xs; thins = h .thins; within = h .within }
 
 -- ---- who is to blame
 
 -- the bound falls short: all units
 pub blamed-all : (p : Problem) (us : List ℕ) (node : Node) (limit b wanted : ℕ) → wanted ≡ limit + totalIn us → node .bound .0 < wanted
-    → ((i : ℕ) → has b i ≡ ltb i (node .unit)) → Blamed p us node limit b
+    → b ≡ node .placed → Blamed p us node limit b
 blamed-all p us node limit b wanted e less all = record {
-  within = λ i q. ltb-true i (node .unit) (sym (all i) ∙ q);
+  within = λ i q. subst (λ (x : ℕ). has x i ≡ true) all q;
   closed = λ le. absurd (omega arith);
   all = λ _. all;
 }
@@ -251,7 +251,7 @@ blamed-all p us node limit b wanted e less all = record {
 -- it comes to the limit: those that keep it there
 pub blamed-some : (ws : List ℕ) (l : Layout) (us : List ℕ) (node : Node) (xs : List ℕ) (limit wanted : ℕ) (kept : BlameLeft) → Bounded ws l us node xs
     → wanted ≡ limit + totalIn us → wanted ≤ node .bound .0
-    → Shrunk (problemOf ws) us (entry (node .starts)) (node .unit) wanted kept → Blamed (problemOf ws) us node limit (kept .units)
+    → Shrunk (problemOf ws) us (has (node .placed)) (entry (node .starts)) wanted kept → Blamed (problemOf ws) us node limit (kept .units)
 blamed-some ws l us node xs limit wanted kept h e le t = record {
   within = t .within;
   closed = λ _. bounds-closed (problemOf ws) us (has (kept .units)) (entry (node .starts)) (t .xs) (kept .sum .0) limit (fair ws (h .filed .passed))

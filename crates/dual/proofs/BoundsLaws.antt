@@ -5,19 +5,19 @@ use Prim.Native.Nat.{ℕ, suc, _+_, _-_, _≤_, _<_}
 use mathlib.Core.Path.{_≡_, refl, sym, _∙_, ap, subst}
 use mathlib.Core.Bool.{Bool, true, false, not, _&&_}
 use mathlib.Core.List.{List}
-use native.Mathlib.Decide.{ℕ-discrete, decLe}
+use native.Mathlib.Decide.{ℕ-discrete}
 use native.Mathlib.Omega.{arith}
-use lib.Dec.{ltb, eqb}
+use lib.Dec.{eqb}
 use lib.ListN.{getD, set, length-set}
 use lib.Seq.{getD-set-same, getD-set-other}
-use borrow.Author.Tests.{lt-ltb, le-ltb, ltb-true, eq-eqb, ne-eqb}
+use borrow.Author.Tests.{eq-eqb, ne-eqb}
 use Rattle.sums.specs.Logic.{if}
 use Rattle.sums.specs.Sum.{sumTo, added, shifted}
-use Rattle.sums.specs.NumSet.{NumSet, onlyIn, has}
+use Rattle.sums.specs.NumSet.{NumSet, onlyIn, has, with}
 use Rattle.sums.specs.Table.{entry}
 use Rattle.sums.proofs.LogicLaws.{true-false, and-of, and-left, and-right}
 use Rattle.sums.proofs.SumLaws.{sum-mono, sum-same, sum-added}
-use Rattle.sums.proofs.NumSetLaws.{zero-has}
+use Rattle.sums.proofs.NumSetLaws.{zero-has, with-at, with-old, with-else}
 use Rattle.model.specs.Problem.{Problem, Fair}
 use Rattle.model.specs.Domain.{permitted}
 use Rattle.model.specs.Schedule.{inSpan, outIn}
@@ -25,10 +25,10 @@ use Rattle.model.specs.Commitment.{NO_RUN}
 use Rattle.model.proofs.DomainLaws.{permits-from, permits-ends}
 use Rattle.overhaul.proofs.SpanLaws.{span-sum}
 use Rattle.blame.specs.Closed.{Closed}
-use Rattle.blame.specs.Placed.{firstUnits, outOf}
+use Rattle.blame.specs.Placed.{outOf}
 use Rattle.blame.specs.Priced.{priced, unitBound, lowerBound, LeastPriced, WeekLeast}
 use Rattle.blame.proofs.BoundLaws.{priced-closed}
-use Rattle.blame.proofs.PlacedLaws.{sum-one}
+use Rattle.blame.proofs.PlacedLaws.{sum-one, out-agree}
 use Rattle.tables.specs.Tables.{priceIn, leastIn, excessIn, rootIn, totalIn}
 use Rattle.dual.specs.Dual.{Costs, Roots, Dual, Bounds}
 use Rattle.dual.specs.Blame.{gainIn, lossOf, PutBack}
@@ -64,88 +64,62 @@ bounds-closed p us b starts xs sum limit fair d h le =
 
 -- ---- a unit placed
 
-module _ (p : Problem) (us : List ℕ) (starts : ℕ → ℕ) (xs : List ℕ) (j sum : ℕ) (c : Costs p (priceIn us) (p .units) us)
-    (unit : j < p .units) (permits : permitted p j (starts j) ≡ true) where
-  -- the bound rises by what its start us above the least
-  pub bounds-placed : Bounds p us (firstUnits j) starts xs sum
-      → Bounds p us (firstUnits (j + 1)) starts xs (sum + excessIn us j (starts j))
-  unfolding lowerBound unitBound firstUnits
+module _ (p : Problem) (us : List ℕ) (b : NumSet) (starts : ℕ → ℕ) (xs : List ℕ) (j sum : ℕ) (c : Costs p (priceIn us) (p .units) us)
+    (unit : j < p .units) (permits : permitted p j (starts j) ≡ true) (fresh : b j ≡ false) where
+  -- the bound rises by what its start costs above the least
+  pub bounds-placed : Bounds p us b starts xs sum → Bounds p us (with b j) starts xs (sum + excessIn us j (starts j))
+  unfolding lowerBound unitBound
   bounds-placed h = record {
     values = record {
       long = h .values .long;
-      least = λ t l. week-more p (priceIn us) t (outOf p (firstUnits j) starts t) (outOf p (firstUnits (j + 1)) starts t) (entry xs t)
-          (λ i b. out-more p (firstUnits j) (firstUnits (j + 1)) starts t i (rises i)) (h .values .least t l);
+      least = λ t l. week-more p (priceIn us) t (outOf p b starts t) (outOf p (with b j) starts t) (entry xs t)
+          (λ i _. out-more p b (with b j) starts t i (with-old b j i)) (h .values .least t l);
       small = h .values .small;
     };
     under = omega (arith, h .under, one, old, new, c .exact j (starts j) unit permits);
   }
     where
-      rises : (i : ℕ) → ltb i j ≡ true → ltb i (j + 1) ≡ true
-      rises i e = let l = ltb-true i j e in lt-ltb i (j + 1) (omega arith)
-
       before : ℕ → ℕ
-      before = unitBound p (priceIn us) (firstUnits j) starts (leastIn us)
+      before = unitBound p (priceIn us) b starts (leastIn us)
 
       after : ℕ → ℕ
-      after = unitBound p (priceIn us) (firstUnits (j + 1)) starts (leastIn us)
+      after = unitBound p (priceIn us) (with b j) starts (leastIn us)
 
       same : (k : ℕ) → k < p .units → (k ≡ j → ⊥) → before k ≡ after k
-      same k l ne = go (ltb k j) refl
-        where
-          go : (b : Bool) → ltb k j ≡ b → if b (priced p (priceIn us) k (starts k)) (leastIn us k) ≡ after k
-          go true e = let m = ltb-true k j e in rw (lt-ltb k (j + 1) (omega arith))
-          go false e = rw (le-ltb k (j + 1) (above e))
-            where
-              above : ltb k j ≡ false → j + 1 ≤ k
-              above q = go2 (ℕ-discrete k j)
-                where
-                  go2 : Dec (k ≡ j) → j + 1 ≤ k
-                  go2 (yes z) = absurd (ne z)
-                  go2 (no z) = low (decLe j k)
-                    where
-                      low : Dec (j ≤ k) → j + 1 ≤ k
-                      low (yes m) = omega arith
-                      low (no m) = true-false (sym (lt-ltb k j (omega arith)) ∙ q)
+      same k l ne = ap (λ (x : Bool). if x (priced p (priceIn us) k (starts k)) (leastIn us k)) (sym (with-else b j k ne))
 
       one : sumTo (p .units) after + before j ≡ sumTo (p .units) before + after j
       one = sum-one (p .units) j before after unit same
 
       old : before j ≡ leastIn us j
-      old = rw (le-ltb j j (omega arith))
+      old = rw fresh
 
       new : after j ≡ priced p (priceIn us) j (starts j)
-      new = rw (lt-ltb j (j + 1) (omega arith))
+      new = rw (with-at b j)
 
 -- ---- other starts
 
 -- only the starts of the units placed count
-pub bounds-agree : (p : Problem) (us : List ℕ) (starts other : ℕ → ℕ) (xs : List ℕ) (k sum : ℕ)
-    → ((i : ℕ) → i < k → starts i ≡ other i) → Bounds p us (firstUnits k) starts xs sum → Bounds p us (firstUnits k) other xs sum
-unfolding lowerBound unitBound firstUnits outOf outIn
-bounds-agree p us starts other xs k sum same h = record {
+pub bounds-agree : (p : Problem) (us : List ℕ) (b : NumSet) (starts other : ℕ → ℕ) (xs : List ℕ) (sum : ℕ)
+    → ((i : ℕ) → b i ≡ true → starts i ≡ other i) → Bounds p us b starts xs sum → Bounds p us b other xs sum
+unfolding lowerBound unitBound
+bounds-agree p us b starts other xs sum same h = record {
   values = record {
     long = h .values .long;
-    least = λ t l. week-more p (priceIn us) t (outOf p (firstUnits k) starts t) (outOf p (firstUnits k) other t) (entry xs t) (λ i _. out t i)
-        (h .values .least t l);
+    least = λ t l. week-more p (priceIn us) t (outOf p b starts t) (outOf p b other t) (entry xs t)
+        (λ i _ e. sym (out-agree p b starts other same t i) ∙ e) (h .values .least t l);
     small = h .values .small;
   };
   under = omega (
     arith,
     h .under,
-    sum-same (p .units) (unitBound p (priceIn us) (firstUnits k) starts (leastIn us))
-        (unitBound p (priceIn us) (firstUnits k) other (leastIn us)) (λ i _. part i (ltb i k) refl),
+    sum-same (p .units) (unitBound p (priceIn us) b starts (leastIn us)) (unitBound p (priceIn us) b other (leastIn us)) (λ i _. part i (b i) refl),
   );
 }
   where
-    out : (t i : ℕ) → (ltb i k && inSpan (starts i) (p .duration i) t) ≡ true → (ltb i k && inSpan (other i) (p .duration i) t) ≡ true
-    out t i e =
-        let b = and-left (ltb i k) (inSpan (starts i) (p .duration i) t) e in
-        and-of (ltb i k) (inSpan (other i) (p .duration i) t) b
-        (subst (λ (v : ℕ). inSpan v (p .duration i) t ≡ true) (same i (ltb-true i k b)) (and-right (ltb i k) (inSpan (starts i) (p .duration i) t) e))
-
-    part : (i : ℕ) (b : Bool) → ltb i k ≡ b
-        → if b (priced p (priceIn us) i (starts i)) (leastIn us i) ≡ if b (priced p (priceIn us) i (other i)) (leastIn us i)
-    part i true e = ap (priced p (priceIn us) i) (same i (ltb-true i k e))
+    part : (i : ℕ) (c : Bool) → b i ≡ c
+        → if c (priced p (priceIn us) i (starts i)) (leastIn us i) ≡ if c (priced p (priceIn us) i (other i)) (leastIn us i)
+    part i true e = ap (priced p (priceIn us) i) (same i e)
     part i false e = refl
 
 -- ---- a week worth more

@@ -5,9 +5,8 @@ use mathlib.Core.Path.{_≡_}
 use mathlib.Core.Bool.{true, false}
 use mathlib.Core.List.{List}
 use lib.ListN.{length}
-use lib.Dec.{ltb}
 use Rattle.sums.specs.Sum.{sumTo, shifted}
-use Rattle.sums.specs.NumSet.{has}
+use Rattle.sums.specs.NumSet.{NumSet, has, with}
 use Rattle.sums.specs.Table.{entry}
 use Rattle.model.specs.declared.Layout.{Layout}
 use Rattle.model.specs.Problem.{Problem}
@@ -17,7 +16,6 @@ use Rattle.model.specs.Words.{problemOf}
 use Rattle.instance.specs.declared.Euro.{Euro}
 use Rattle.instance.specs.Filed.{Filed}
 use Rattle.blame.specs.Closed.{Closed}
-use Rattle.blame.specs.Placed.{firstUnits}
 use Rattle.tables.specs.Tables.{excessIn, rootIn, totalIn}
 use Rattle.dual.specs.declared.BlameLeft.{BlameLeft}
 use Rattle.dual.specs.declared.Node.{Node}
@@ -27,31 +25,39 @@ use Rattle.dual.specs.Dual.{Dual, Bounds}
 abbrev pub MOST_WANTED : ℕ
 MOST_WANTED = 8589934592
 
--- a node with one unit more placed, at this bound
-abbrev pub nextNode : Node → Euro → Node
-nextNode node b = record { starts = node .starts; unit = node .unit + 1; bound = b }
+-- the units placed, and the node's own
+abbrev pub placedAfter : Node → NumSet
+placedAfter node = with (has (node .placed)) (node .unit)
+
+-- the node of the next unit, with the units of this set placed, at this bound
+abbrev pub nextNode : Node → (placed : ℕ) → Euro → Node
+nextNode node placed b = record { starts = node .starts; unit = node .unit + 1; bound = b; placed = placed }
+
+-- the node after its unit is placed, at this bound
+pub record IsNext (node : Node) (b : Euro) (r : Node) : Type 0 where
+  pub is : r ≡ nextNode node (r .placed) b
+  pub joins : (i : ℕ) → has (r .placed) i ≡ placedAfter node i
 
 -- the same node at another bound
 abbrev pub withBound : Node → Euro → Node
-withBound node b = record { starts = node .starts; unit = node .unit; bound = b }
+withBound node b = record { starts = node .starts; unit = node .unit; bound = b; placed = node .placed }
 
--- the first k starts are permitted
-pub record PermitsTo (p : Problem) (starts : ℕ → ℕ) (k : ℕ) : Type 0 where
-  pub each : (i : ℕ) → i < k → permitted p i (starts i) ≡ true
+-- the starts of the units of b are permitted
+pub record PermitsOf (p : Problem) (b : NumSet) (starts : ℕ → ℕ) : Type 0 where
+  pub each : (i : ℕ) → b i ≡ true → permitted p i (starts i) ≡ true
 
--- a node of the walk, with a lower bound of the schedules with its starts
+-- a node of a walk, with a lower bound of the schedules with the starts of the units placed
 pub record Bounded (ws : List ℕ) (l : Layout) (us : List ℕ) (node : Node) (xs : List ℕ) : Type 0 where
   pub filed : Filed ws l
   pub dual : Dual (problemOf ws) us
-  pub placed : node .unit ≤ l .units
-  pub permits : PermitsTo (problemOf ws) (entry (node .starts)) (node .unit)
-  pub bounds : Bounds (problemOf ws) us (firstUnits (node .unit)) (entry (node .starts)) xs (node .bound .0)
+  pub permits : PermitsOf (problemOf ws) (has (node .placed)) (entry (node .starts))
+  pub bounds : Bounds (problemOf ws) us (has (node .placed)) (entry (node .starts)) xs (node .bound .0)
 
 -- the units to blame, of those placed: where the bound comes to the limit and the total, their starts are a dead end; else all of them
 pub record Blamed (p : Problem) (us : List ℕ) (node : Node) (limit b : ℕ) : Type 0 where
-  pub within : (i : ℕ) → has b i ≡ true → i < node .unit
+  pub within : (i : ℕ) → has b i ≡ true → has (node .placed) i ≡ true
   pub closed : limit + totalIn us ≤ node .bound .0 → Closed p (has b) (entry (node .starts)) limit
-  pub all : node .bound .0 < limit + totalIn us → (i : ℕ) → has b i ≡ ltb i (node .unit)
+  pub all : node .bound .0 < limit + totalIn us → b ≡ node .placed
 
 -- ---- fewer units to blame
 
@@ -88,11 +94,11 @@ pub record Dropped (p : Problem) (us : List ℕ) (starts : ℕ → ℕ) (wanted 
   pub thins : ShrinksTo p us starts wanted r xs
   pub fewer : (n : ℕ) → has (r .units) n ≡ true → has (kept .units) n ≡ true
 
--- the same with some values of the weeks, of units below k
-pub record Shrunk (p : Problem) (us : List ℕ) (starts : ℕ → ℕ) (k wanted : ℕ) (kept : BlameLeft) : Type 0 where
+-- the same with some values of the weeks, of units of b
+pub record Shrunk (p : Problem) (us : List ℕ) (b : NumSet) (starts : ℕ → ℕ) (wanted : ℕ) (kept : BlameLeft) : Type 0 where
   pub xs : List ℕ
   pub thins : ShrinksTo p us starts wanted kept xs
-  pub within : (i : ℕ) → has (kept .units) i ≡ true → i < k
+  pub within : (i : ℕ) → has (kept .units) i ≡ true → b i ≡ true
 
 -- unit i at its permitted start, with the weeks' values
 pub record OverhaulAt (ws : List ℕ) (l : Layout) (starts : List ℕ) (i : ℕ) (xs : List ℕ) : Type 0 where
@@ -107,3 +113,9 @@ pub record Dropping (ws : List ℕ) (l : Layout) (us starts : List ℕ) (i wante
   pub dual : Dual (problemOf ws) us
   pub few : wanted ≤ MOST_WANTED
   pub thins : ShrinksTo (problemOf ws) us (entry starts) wanted kept xs
+
+-- the same where it is one of them
+pub record MayDrop (ws : List ℕ) (l : Layout) (us starts : List ℕ) (i wanted : ℕ) (kept : BlameLeft) (xs : List ℕ) : Type 0 where
+  pub unit : i < 32
+  pub thins : ShrinksTo (problemOf ws) us (entry starts) wanted kept xs
+  pub dropping : has (kept .units) i ≡ true → Dropping ws l us starts i wanted kept xs

@@ -11,6 +11,7 @@ ghost use mathlib.Core.Bool.{true};
 ghost use Prim.Native.Nat.{_+_, _-_, _*_, _<_, _≤_};
 ghost use lib.ListN.{length};
 ghost use Rattle.sums.specs.Sum.{sumTo, added, transposed, shifted};
+ghost use Rattle.sums.specs.NumSet.{has};
 ghost use Rattle.sums.specs.Table.{entry};
 ghost use Rattle.model.specs.Domain.{permitted};
 ghost use Rattle.model.specs.Nogood.{MOST_LIMIT};
@@ -21,28 +22,32 @@ ghost use Rattle.tables.specs.Tables.{TABLES, AMOUNTS, priceIn, totalIn, Priced
 ghost use Rattle.relaxation.specs.Relaxed.{MemoTrue};
 ghost use Rattle.dual.specs.Dual.{MOST_OVERHAUL, MOST_SPAN, spanSum, Dual, LeastFrom};
 ghost use Rattle.dual.specs.Made.{UnitAt, StartAt, CostsMade, CostsTo, RootsMade};
-ghost use Rattle.dual.specs.Blame.{MOST_WANTED, nextNode, withBound, Bounded, Blamed, OverhaulAt, gainIn, lossOf, BackTo, PutBack, Dropping, Dropped, Shrunk};
+ghost use Rattle.dual.specs.Blame.{MOST_WANTED, IsNext, withBound, Bounded, Blamed, OverhaulAt, gainIn, lossOf, BackTo, PutBack, Dropping, MayDrop, Dropped, Shrunk};
 
 // What the overhaul of a unit costs at most: 52 weeks at 250,000 and the highest price, and 52 at 250,000.
 pub const MOST_OVERHAUL: u64 = 268435456;
 
-// A place of the walk: the first `unit` units have these starts, and no schedule with them costs less than the bound, all prices and OFF costs.
+// A place of a walk: the units of the set `placed` have these starts, no schedule with them costs less than the bound, all prices and OFF costs
+// included, and `unit` is to be placed next.
 pub struct Node {
     pub starts: [u8; 16],
     pub unit: usize,
     pub bound: Euro,
+    pub placed: u32,
 }
 
-// The same starts with one unit more placed, at this bound.
+// The same starts with the node's unit placed, at this bound; the unit after it is next.
 pub fn next_node(node: Node, bound: Euro) -> Node
     requires { ⌜ node .unit < 16 ⌝ }
-    ensures { λ r. ⌜ r ≡ nextNode node bound ⌝ }
+    ensures { λ r. ⌜ IsNext node bound r ⌝ }
 {
     let starts = node.starts;
+    let placed = sets::with(node.placed, node.unit);
     Node {
         starts,
         unit: node.unit + 1,
         bound,
+        placed,
     }
 }
 
@@ -55,6 +60,7 @@ pub fn with_bound(node: Node, bound: Euro) -> Node
         starts,
         unit: node.unit,
         bound,
+        placed: node.placed,
     }
 }
 
@@ -305,7 +311,7 @@ fn put_back(
     put_weeks_back(tables, start - 1, duration, values);
 }
 
-// Drops unit i where the bound still comes to what is wanted.
+// Drops unit i, one of those kept, where the bound still comes to what is wanted.
 fn drop_unit(
     words: &[u32],
     l: Layout,
@@ -330,6 +336,26 @@ fn drop_unit(
     }
 }
 
+// The same of any unit: one that is not kept cannot be dropped.
+fn try_drop(
+    words: &[u32],
+    l: Layout,
+    tables: &[u32; TABLES],
+    starts: [u8; 16],
+    i: usize,
+    wanted: Euro,
+    kept: BlameLeft,
+    values: &mut [u32],
+) -> BlameLeft
+    requires { ⌜ MayDrop (now words) l (now tables) starts i (wanted .0) kept (now values) ⌝ }
+    ensures { λ r. ⌜ Dropped (problemOf (now (words .entry))) (now (tables .entry)) (entry starts) (wanted .0) kept r (now (values .exit)) ⌝ }
+{
+    if sets::has(kept.units, i) {
+        return drop_unit(words, l, tables, starts, i, wanted, kept, values);
+    }
+    kept
+}
+
 // Drops units of those placed, the last first, where the bound still comes to what is wanted.
 fn shrink_blame(
     words: &[u32],
@@ -340,18 +366,18 @@ fn shrink_blame(
     values: &mut [u32],
 ) -> BlameLeft
     requires { ⌜ Bounded (now words) l (now tables) node (now values) × (wanted .0 ≤ node .bound .0) × (wanted .0 ≤ MOST_WANTED) ⌝ }
-    ensures { λ r. ⌜ Shrunk (problemOf (now (words .entry))) (now (tables .entry)) (entry (node .starts)) (node .unit) (wanted .0) r ⌝ }
+    ensures { λ r. ⌜ Shrunk (problemOf (now (words .entry))) (now (tables .entry)) (has (node .placed)) (entry (node .starts)) (wanted .0) r ⌝ }
 {
     let starts = node.starts;
     let sum = node.bound;
-    let mut i = node.unit;
+    let mut i = l.units;
     let mut kept = BlameLeft {
-        units: sets::below(i),
+        units: node.placed,
         sum,
     };
     while 0 < i {
         i -= 1;
-        let next = drop_unit(words, l, tables, starts, i, wanted, kept, values);
+        let next = try_drop(words, l, tables, starts, i, wanted, kept, values);
         kept = next;
     }
     kept
@@ -389,7 +415,7 @@ pub fn find_blame(
     let most = wanted(tables, limit);
     let sum = node.bound;
     if sum.0 < most.0 {
-        return sets::below(node.unit);
+        return node.placed;
     }
     let kept = shrink_blame(words, l, tables, node, most, values);
     kept.units

@@ -13,12 +13,12 @@ use Rattle.model.specs.Nogood.{Choice, Nogood, choiceWords, nogoodWords, nogood
 use Rattle.model.specs.Answer.{Answer, optimal, infeasible, incumbent, unknown, Correct, zeros, blockOf, blocksOf}
 use Rattle.model.specs.Asks.{askCount, ceilingAt, budgetAt, answerAt, Answered}
 use Rattle.model.proofs.FileLaws.{fair}
-use Rattle.figures.specs.Files.{fileA}
-use Rattle.figures.specs.Tests.{computes}
+use Rattle.claims.specs.Files.{fileA}
+use Rattle.claims.specs.Tests.{computes}
 use Rattle.figures.specs.Runs.{firstWords, oneAsk, noneWords, runRows, StrayWord, StrayStatus, StrayAnswer, LongerTable, NineChoices, Runs}
-use Rattle.figures.proofs.RunLaws.{told-is}
-use Rattle.figures.proofs.RowLaws.{all-of-computed}
-use Rattle.figures.proofs.Rows.{rows-hold}
+use Rattle.claims.proofs.RunLaws.{told-is}
+use Rattle.claims.proofs.RowLaws.{all-of-computed}
+use Rattle.claims.proofs.Rows.{rows-hold}
 
 computed : T (computes runRows)
 unfolding computes firstWords

@@ -13,8 +13,8 @@ use Rattle.model.specs.Verdict.{accepted}
 use Rattle.model.specs.Nogood.{Nogood, IsNogood}
 use Rattle.model.specs.Answer.{Answer, optimal, infeasible, incumbent, unknown, zeros}
 use Rattle.model.specs.Asks.{Ran}
-use Rattle.figures.specs.Files.{fileA, fileOne, fileFree}
-use Rattle.figures.specs.Rows.{Claim, Row, on, All, Refuses, firstAtOne, right, wrong, noted, unfit, ran, wrongAnswers, wrongTable}
+use Rattle.claims.specs.Files.{fileA, fileOne, fileFree}
+use Rattle.claims.specs.Rows.{Claim, Row, on, All, Refuses, firstAtOne, right, wrong, noted, unfit, ran, wrongAnswers, wrongTable}
 
 -- ---- answers on file A, and their blocks: status, cost, 2 starts, 3 runs, 2 words of mark
 

@@ -1,2 +1,1 @@
-// The worked figures of document 01, and rows beside them that guard the definitions of crate model, proved of these: specs/Rows has the kinds of
-// rows and the figures marked P; specs/General, Ties, Runs, Worked, Refusals and Encodings have the others; proofs/Figures has the theorem.
+// The worked figures: the rows of crate claims and the runs of asks of specs/Runs, jointly. proofs/Figures has the theorem.

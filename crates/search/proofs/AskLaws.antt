@@ -6,11 +6,13 @@ use mathlib.Core.Bool.{Bool, true, false}
 use mathlib.Core.List.{List, [], _∷_}
 use native.Mathlib.Omega.{arith}
 use lib.ListN.{length, replicate}
-use borrow.Author.Tests.{eqb-true, ne-eqb}
+use borrow.Author.Tests.{eqb-true, ne-eqb, le-ltb}
 use Rattle.sums.specs.Range.{listTo, firstTo}
+use Rattle.sums.specs.NumSet.{has}
 use Rattle.sums.specs.Table.{entry}
 use Rattle.sums.proofs.LogicLaws.{true-false}
 use Rattle.sums.proofs.RangeLaws.{first-is}
+use Rattle.sums.proofs.NumSetLaws.{zero-has}
 use Rattle.sums.proofs.CountLaws.{count-less}
 use Rattle.model.specs.declared.Layout.{Layout}
 use Rattle.model.specs.Problem.{Problem, Fair}
@@ -64,8 +66,8 @@ startless-none p fair e s sound =
     )
 
 -- where nobody is to blame, nothing is below the limit
-blame-nobody : (p : Problem) (starts : ℕ → ℕ) (limit b : ℕ) → Blames p starts 0 limit b → AllSettled p limit
-blame-nobody p starts limit b h = record { costs = λ s sound. h .closed .costs s sound (λ i l e. nobody-below (h .within i e)) }
+blame-nobody : (p : Problem) (starts : ℕ → ℕ) (limit b : ℕ) → Blames p (has 0) starts limit b → AllSettled p limit
+blame-nobody p starts limit b h = record { costs = λ s sound. h .closed .costs s sound (λ i l e. true-false (sym (h .within i e) ∙ zero-has i)) }
 
 -- a unit has no permitted start
 pub finished-startless : (ws : List ℕ) (l : Layout) (us w memo : List ℕ) (st : State) (some : Bool) (step : Step) → WalkDue ws l us st w memo
@@ -114,8 +116,9 @@ module _ (ws : List ℕ) (l : Layout) (us w memo : List ℕ) (st : State) (d : W
           open-at = record {
             unit = omega (arith, root .none, g .units-some);
             long = omega (arith, root .long, g .units-most);
-            stands = rw (root .none, root .bound-is) (stands .each (entry (at .node .starts)));
-            tallied = rw (root .none) (rows-none (problemOf ws) (entry (at .node .starts)) rows none);
+            order = record { each = λ i. rw (root .nobody, root .none) (zero-has i ∙ sym (le-ltb i 0 (omega arith))) };
+            stands = rw (root .nobody, root .bound-is) (stands .each (entry (at .node .starts)));
+            tallied = rw (root .nobody) (rows-none (problemOf ws) (entry (at .node .starts)) rows none);
             settled = record { costs = λ s sound l. nobody-below (subst (λ (k : ℕ). l .at < k) (root .none) (l .below)) };
             past = λ q. true-false (sym q ∙ (ap (λ (x : State). x .found) (root .same) ∙ d .fresh .nothing));
             counted = omega (arith, ap (λ (x : State). x .tries) (root .same), d .fresh .tries);

@@ -1,12 +1,13 @@
 -- What the calls of the walk ask and give, in the words of its two functions: a unit is placed, a start is tried.
 -- Assumes nothing.
 use Prim.Native.Nat.{ℕ, suc, _+_, _*_, _-_, _≤_, _<_}
-use mathlib.Core.Path.{_≡_, refl, sym, _∙_, ap, subst}
+use mathlib.Core.Path.{_≡_, refl, sym, _∙_, ap, subst, subst₂}
 use mathlib.Core.Bool.{Bool, true, false}
 use mathlib.Core.List.{List}
 use native.Mathlib.Nat.{le-trans}
 use native.Mathlib.Omega.{arith}
 use lib.ListN.{length, set}
+use borrow.Author.Tests.{lt-ltb}
 use Rattle.sums.specs.NumSet.{has}
 use Rattle.sums.specs.Table.{entry}
 use Rattle.sums.proofs.LogicLaws.{true-false}
@@ -19,16 +20,15 @@ use Rattle.model.proofs.FileLaws.{fair}
 use Rattle.instance.specs.declared.Euro.{Euro}
 use Rattle.instance.specs.Filed.{Filed}
 use Rattle.overhaul.specs.Range.{StartRange}
-use Rattle.blame.specs.Placed.{placed}
 use Rattle.nogood.proofs.StockLaws.{stock-within}
 use Rattle.tables.specs.Tables.{priceIn}
 use Rattle.relaxation.specs.Relaxed.{MemoTrue}
 use Rattle.dual.specs.declared.Node.{Node}
-use Rattle.dual.specs.Blame.{nextNode}
+use Rattle.dual.specs.Blame.{IsNext}
 use Rattle.bound.specs.declared.Trial.{Trial}
 use Rattle.bound.specs.declared.Trial.the-variants.{Holds, Fails}
-use Rattle.bound.specs.Rows.{Rows}
-use Rattle.bound.specs.Tests.{Due, Stands, Judged}
+use Rattle.bound.specs.Rows.{RowsDue, RowsWith}
+use Rattle.bound.specs.Tests.{Judged}
 use Rattle.state.specs.declared.State.{State}
 use Rattle.state.specs.declared.Step.{Step}
 use Rattle.state.specs.declared.Walked.{Walked}
@@ -37,7 +37,7 @@ use Rattle.state.specs.State.{triedOnce, stoppedAt, deadAt, DeadEndNoted}
 use Rattle.search.specs.declared.walk.Visit.{Visit}
 use Rattle.search.specs.declared.walk.Turn.{Turn}
 use Rattle.search.specs.declared.walk.Tried.{Tried}
-use Rattle.search.specs.Walk.{startAt, IsStart, Open, Walking, PlaceNeeds, PlaceDue, TryNeeds, TryDue, Judging, TryJudged, nextVisit, Deeper, TryTaken, PlaceDone, TryDone, LeavesUnit, GoesOn, Shares, TurnOf, Done, tryRoom, placeRoom, LeafDue, Leaf}
+use Rattle.search.specs.Walk.{IsStart, Open, Walking, PlaceDue, TryNeeds, TryDue, Judging, TryJudged, GoesTo, Deeper, TryTaken, PlaceDone, TryDone, LeavesUnit, GoesOn, Shares, TurnOf, Done, tryRoom, placeRoom, LeafDue, Leaf}
 use Rattle.search.proofs.StateLaws.{held-later}
 use Rattle.search.proofs.PlaceLaws.{places-to-try, places-to-place}
 use Rattle.search.proofs.NotedLaws.{later-noted}
@@ -85,6 +85,7 @@ module _ (ws : List ℕ) (l : Layout) (us rows ys : List ℕ) (at : Visit) (w me
   place-leaf last = record {
     walking = d .walking;
     whole = omega (arith, d .open-at .unit, f .units-are);
+    order = d .open-at .order;
     stands = d .open-at .stands;
     tallied = d .open-at .tallied;
     small = d .open-at .small;
@@ -162,7 +163,7 @@ module _ (ws : List ℕ) (l : Layout) (us rows ys : List ℕ) (node : Node) (st 
       subst (PlaceDone prob w w₂ node st) (sym is)
       (done-all prob w w₁ us rows ys node st s blame first last v (h .range) (h .inside) (h .open-at) t ended w₂ r
       (λ closed. later-noted prob w₁ w₂ s r (node .starts) (node .unit) blame (omega (arith, h .inside)) (le-trans (t .later .falls)
-      (h .open-at .small)) (h .open-at .stands .standing .permits) (t .under) closed k)
+      (h .open-at .small)) (λ i b. h .open-at .stands .standing .permits i (h .open-at .order .each i ∙ lt-ltb i (node .unit) b)) (t .under) closed k)
       (ap (λ (x : State). x .limit) (k .state)) (ap (λ (x : State). x .tries) (k .state)) (ap (λ (x : State). x .found) (k .state))
       (ap (λ (x : State). x .best) (k .state)) (ap (λ (x : State). x .budget) (k .state)))
 
@@ -298,13 +299,18 @@ module _ (ws : List ℕ) (l : Layout) (us rows ys : List ℕ) (at : Visit) (w me
       subst (TryDone (problemOf ws) w w at) (sym is) (done-stopped (problemOf ws) w us rows ys (at .node) (at .state) (d .untried) k e h)
 
 -- where the walk goes on after a verdict
-pub deeper-fails : (at next : Visit) (v : Trial) (b : ℕ) (s : State) (r : Tried) → s ≡ triedOnce (at .state) → v ≡ Fails b → r .trial ≡ Fails b
+pub deeper-fails : (at : Visit) (v : Trial) (b : ℕ) (s : State) (r : Tried) → s ≡ triedOnce (at .state) → v ≡ Fails b → r .trial ≡ Fails b
     → r .at .node ≡ at .node → r .at .state ≡ s → Deeper at v r
-deeper-fails at next v b s r es e et en est = record { trial-is = et ∙ sym e; goes-to = rw (e, ← es, ← en, ← est) refl }
+deeper-fails at v b s r es e et en est =
+    record { trial-is = et ∙ sym e; node-is = subst (λ (x : Trial). GoesTo (at .node) x (r .at .node)) (sym e) en; state-is = est ∙ es }
 
-pub deeper-holds : (at : Visit) (v : Trial) (c : Euro) (s : State) (node : Node) (r : Tried) → s ≡ triedOnce (at .state) → node ≡ nextNode (at .node) c
+pub deeper-holds : (at : Visit) (v : Trial) (c : Euro) (s : State) (node : Node) (r : Tried) → s ≡ triedOnce (at .state) → IsNext (at .node) c node
     → v ≡ Holds c → r .trial ≡ Holds c → r .at .node ≡ node → r .at .state ≡ s → Deeper at v r
-deeper-holds at v c s node r es eno e et en est = record { trial-is = et ∙ sym e; goes-to = rw (e, ← es, ← eno, ← en, ← est) refl }
+deeper-holds at v c s node r es next e et en est = record {
+  trial-is = et ∙ sym e;
+  node-is = subst (λ (x : Trial). GoesTo (at .node) x (r .at .node)) (sym e) (subst (IsNext (at .node) c) (sym en) next);
+  state-is = est ∙ es;
+}
 
 -- the start is judged within the budget
 module _ (ws : List ℕ) (l : Layout) (us rows ys : List ℕ) (at : Visit) (w memo zs memo₁ : List ℕ) (v : Trial)
@@ -318,7 +324,8 @@ module _ (ws : List ℕ) (l : Layout) (us rows ys : List ℕ) (at : Visit) (w me
   unfolding TryJudged TryTaken
   judged-taken r d = record {
     judging = subst (Judging ws l us rows ys at w memo zs memo₁) (sym (d .trial-is)) j;
-    goes-to = d .goes-to ∙ ap (nextVisit at) (sym (d .trial-is));
+    node-is = subst (λ (x : Trial). GoesTo (at .node) x (r .at .node)) (sym (d .trial-is)) (d .node-is);
+    state-is = d .state-is;
   }
 
 module _ (ws : List ℕ) (l : Layout) (us rows ys : List ℕ) (at : Visit) (w memo zs memo₁ : List ℕ) (r : Tried)
@@ -336,41 +343,46 @@ module _ (ws : List ℕ) (l : Layout) (us rows ys : List ℕ) (at : Visit) (w me
   taken-recalls = j .judging .recalls
 
   -- what its rows ask
-  pub taken-rows : Due (problemOf ws) rows (entry (at .node .starts)) (at .node .unit)
+  pub taken-rows : RowsDue (problemOf ws) rows (entry (at .node .starts)) (at .node .unit)
   unfolding TryTaken
   taken-rows =
       let u = j .judging .due .untried in
-      record { unit = u .unit; permits = u .permits; tallied = u .tallied }
+      record { unit = u .unit; permits = u .permits; long = u .tallied .long; tallies = u .tallied .tallies }
 
   -- it fails
   pub taken-fails : (b : ℕ) (s : State) (step : Step) → r .trial ≡ Fails b → s ≡ r .at .state → step ≡ deadAt s b → TryDone (problemOf ws) w w at step
   unfolding TryTaken TryDone
   taken-fails b s step t es is =
-      let g : s ≡ triedOnce (at .state) = es ∙ (ap (λ (x : Visit). x .state) (j .goes-to) ∙ ap (λ (x : Trial). nextVisit at x .state) t) in
+      let g : s ≡ triedOnce (at .state) = es ∙ j .state-is in
       subst (TryDone (problemOf ws) w w at) (sym (is ∙ ap (λ (x : State). deadAt x b) g))
       (done-fails (problemOf ws) w us rows ys (at .node) (at .state) (j .judging .due .untried) b
       (subst (Judged (problemOf ws) us (at .node) (at .state .limit .0) zs) t (j .judging .said)))
 
   module _ (c : Euro) (e : r .trial ≡ Holds c) where
-    goes : r .at ≡ record { node = nextNode (at .node) c; state = triedOnce (at .state) }
+    next : IsNext (at .node) c (r .at .node)
     unfolding TryTaken
-    goes = j .goes-to ∙ ap (nextVisit at) e
+    next = subst (λ (x : Trial). GoesTo (at .node) x (r .at .node)) e (j .node-is)
+
+    counted : r .at .state ≡ triedOnce (at .state)
+    unfolding TryTaken
+    counted = j .state-is
 
     -- it holds, and the next unit is to be placed
-    pub taken-places : (out : List ℕ) → Rows (problemOf ws) (placed (problemOf ws) (entry (at .node .starts)) (at .node .unit + 1)) out
+    pub taken-places : (out : List ℕ) → RowsWith (problemOf ws) rows (entry (at .node .starts)) (at .node .unit) out
         → PlaceDue ws l us out zs (r .at) w memo₁
     unfolding TryTaken PlaceDue
-    taken-places out tallied = subst (λ (x : Visit). PlaceNeeds ws l us out zs x w memo₁) (sym goes) (record {
+    taken-places out tallied = record {
       walking = walking-on ws l us memo memo₁ (j .judging .due .walking) (j .judging .recalls);
-      open-at = opened (problemOf ws) w us rows ys (at .node) (at .state) (j .judging .due .untried) out zs c
-          (subst (Judged (problemOf ws) us (at .node) (at .state .limit .0) zs) e (j .judging .said)) tallied;
-    })
+      open-at = subst (Open (problemOf ws) w us out zs (r .at .node)) (sym counted)
+          (opened (problemOf ws) w us rows ys (at .node) (at .state) (j .judging .due .untried) out zs c (r .at .node) next
+          (subst (Judged (problemOf ws) us (at .node) (at .state .limit .0) zs) e (j .judging .said)) tallied);
+    }
 
     -- with fewer places below it
     pub taken-falls : (n : ℕ) → 2 * treeSize (problemOf ws) (problemOf ws .units - suc (at .node .unit)) ≡ n
         → 2 * treeSize (problemOf ws) (problemOf ws .units - r .at .node .unit) - 1 < n
     taken-falls n en =
-        subst (λ (x : Visit). 2 * treeSize (problemOf ws) (problemOf ws .units - x .node .unit) - 1 < n) (sym goes)
+        subst (λ (x : Node). 2 * treeSize (problemOf ws) (problemOf ws .units - x .unit) - 1 < n) (sym (next .is))
         (subst (λ (x : ℕ). 2 * treeSize (problemOf ws) (problemOf ws .units - (at .node .unit + 1)) - 1 < x) en
         (places-to-place (problemOf ws) (at .node .unit)))
 
@@ -379,4 +391,4 @@ module _ (ws : List ℕ) (l : Layout) (us rows ys : List ℕ) (at : Visit) (w me
     unfolding TryDone PlaceDone
     taken-placed w₂ step done =
         done-place (problemOf ws) w w₂ (at .node .starts) (at .node .unit) (at .state) step
-        (subst (λ (x : Visit). PlaceDone (problemOf ws) w w₂ (x .node) (x .state) step) goes done)
+        (subst₂ (λ (x : Node) (s : State). PlaceDone (problemOf ws) w w₂ x s step) (next .is) counted done)

@@ -8,16 +8,17 @@ use native.Mathlib.Decide.{decLe}
 use native.Mathlib.Omega.{arith}
 use lib.Dec.{ltb}
 use lib.ListN.{length}
-use borrow.Author.Tests.{ltb-true}
+use borrow.Author.Tests.{ltb-true, lt-ltb, le-ltb}
 use Rattle.sums.specs.NumSet.{has}
 use Rattle.sums.specs.Table.{entry}
 use Rattle.model.specs.declared.Layout.{Layout}
 use Rattle.model.specs.Nogood.{MOST_LIMIT}
+use Rattle.model.specs.Schedule.{outIn}
 use Rattle.model.specs.Words.{problemOf}
 use Rattle.model.proofs.FileLaws.{ranged, fair}
 use Rattle.instance.specs.declared.Euro.{Euro}
 use Rattle.instance.specs.Filed.{Filed}
-use Rattle.blame.specs.Placed.{firstUnits, placed, paid}
+use Rattle.blame.specs.Placed.{firstUnits, paid}
 use Rattle.blame.proofs.ClosedLaws.{closed-more}
 use Rattle.blame.proofs.PlacedLaws.{leaf-closed}
 use Rattle.memo.specs.Memo.{Right, Others}
@@ -28,16 +29,19 @@ use Rattle.nogood.proofs.StockLaws.{recall-closed}
 use Rattle.tables.specs.Tables.{priceIn, totalIn}
 use Rattle.relaxation.specs.Relaxed.{MemoTrue}
 use Rattle.relaxation.proofs.ValueLaws.{recalls-others}
-use Rattle.dual.specs.Blame.{Blamed}
-use Rattle.bound.specs.Rows.{Rows}
+use Rattle.dual.specs.declared.Node.{Node}
+use Rattle.dual.specs.Blame.{placedAfter, Blamed}
+use Rattle.bound.specs.Rows.{RowsOfAll}
 use Rattle.bound.specs.declared.Trial.{Trial}
 use Rattle.bound.specs.declared.Trial.the-variants.{Fails}
 use Rattle.bound.specs.Tests.{Blames, Judged, TestDue}
+use Rattle.bound.proofs.RunLaws.{rows-all}
 use Rattle.state.specs.declared.State.{State}
 use Rattle.state.specs.declared.Step.{Step}
 use Rattle.state.specs.State.{deadAt, improvedBy}
 use Rattle.search.specs.declared.walk.Visit.{Visit}
-use Rattle.search.specs.Walk.{TryDue, TryJudged, LeafDue, BetterDue, Better, Leaf}
+use Rattle.search.specs.Walk.{InOrder, TryDue, TryJudged, LeafDue, BetterDue, Better, Leaf}
+use Rattle.search.proofs.TryLaws.{joined-order}
 
 -- ---- a start
 
@@ -57,7 +61,13 @@ module _ (ws : List ℕ) (l : Layout) (us rows ys : List ℕ) (at : Visit) (w me
   test-due = record {
     filed = f;
     dual = d .walking .dual;
-    due = record { unit = d .untried .unit; permits = d .untried .permits; tallied = d .untried .tallied };
+    due = record {
+      unit = d .untried .unit;
+      permits = d .untried .permits;
+      fresh = d .untried .order .each (at .node .unit) ∙ le-ltb (at .node .unit) (at .node .unit) (omega arith);
+      within = λ i e. let l = ltb-true i (at .node .unit) (sym (d .untried .order .each i) ∙ e) in omega (arith, d .untried .unit);
+      tallied = d .untried .tallied;
+    };
     stands = d .untried .stands;
     small = d .untried .small;
     recalls = d .walking .recalls;
@@ -65,7 +75,7 @@ module _ (ws : List ℕ) (l : Layout) (us rows ys : List ℕ) (at : Visit) (w me
 
   -- a noted conflict is met: its units are to blame
   judged-recalled : (h : Scan) (b : ℕ) → h ≡ Cut b → Recalled w (at .node .starts) (at .node .unit + 1) (at .state .limit .0) h
-      → Blames (problemOf ws) (entry (at .node .starts)) (at .node .unit + 1) (at .state .limit .0) b
+      → Blames (problemOf ws) (placedAfter (at .node)) (entry (at .node .starts)) (at .state .limit .0) b
   unfolding TryDue
   judged-recalled h b e r =
       let c : Recall w (at .node .starts) (at .node .unit + 1) (at .state .limit .0) b
@@ -75,7 +85,7 @@ module _ (ws : List ℕ) (l : Layout) (us rows ys : List ℕ) (at : Visit) (w me
         closed = recall-closed (problemOf ws) (d .untried .held .nogoods) w (at .node .starts) (at .state .used) (at .node .unit + 1)
             (at .state .limit .0) b (fair ws (f .passed)) (omega (arith, g .weeks-most)) (g .units-most) (omega (arith, d .untried .unit))
             (d .untried .held .stock) c;
-        within = c .match .within;
+        within = λ i e. joined-order (at .node) (d .untried .order) i ∙ lt-ltb i (at .node .unit + 1) (c .match .within i e);
       }
 
   -- it is judged
@@ -92,19 +102,18 @@ module _ (ws : List ℕ) (l : Layout) (us rows ys : List ℕ) (at : Visit) (w me
 -- ---- every unit has its start
 
 -- the schedule of all starts costs no less than a limit: all units are to blame
-all-blames : (ws : List ℕ) (l : Layout) (starts : ℕ → ℕ) (k cost b limit : ℕ) → Filed ws l → k ≡ l .units
-    → cost ≡ paid (problemOf ws) (placed (problemOf ws) starts (l .units)) → limit ≤ cost → ((i : ℕ) → has b i ≡ ltb i k)
-    → Blames (problemOf ws) starts (problemOf ws .units) limit b
+all-blames : (ws : List ℕ) (l : Layout) (node : Node) (cost limit : ℕ) → Filed ws l → node .unit ≡ l .units → InOrder node
+    → cost ≡ paid (problemOf ws) (outIn (problemOf ws) (entry (node .starts))) → limit ≤ cost
+    → Blames (problemOf ws) (firstUnits (problemOf ws .units)) (entry (node .starts)) limit (node .placed)
 unfolding firstUnits
-all-blames ws l starts k cost b limit f whole e le all =
-    let u : k ≡ problemOf ws .units = omega (arith, f .units-are) in
-    let is : cost ≡ paid (problemOf ws) (placed (problemOf ws) starts (problemOf ws .units))
-    = e ∙ ap (λ (n : ℕ). paid (problemOf ws) (placed (problemOf ws) starts n)) (sym (f .units-are)) in
+all-blames ws l node cost limit f whole order e le =
+    let u : node .unit ≡ problemOf ws .units = omega (arith, f .units-are) in
     record {
-      closed = closed-more (problemOf ws) (firstUnits (problemOf ws .units)) (has b) starts
-          (paid (problemOf ws) (placed (problemOf ws) starts (problemOf ws .units))) limit (λ i h q. all i ∙ ap (ltb i) u ∙ q) (omega (arith, is))
-          (leaf-closed (problemOf ws) starts (fair ws (f .passed)));
-      within = λ i q. let h = ltb-true i k (sym (all i) ∙ q) in omega (arith, u);
+      closed = closed-more (problemOf ws) (has (node .placed)) (has (node .placed)) (entry (node .starts))
+          (paid (problemOf ws) (outIn (problemOf ws) (entry (node .starts)))) limit (λ i h q. q) (omega arith)
+          (leaf-closed (problemOf ws) (entry (node .starts)) (fair ws (f .passed)) (has (node .placed))
+          (λ i h. order .each i ∙ lt-ltb i (node .unit) (omega arith)));
+      within = λ i q. sym (ap (ltb i) u) ∙ (sym (order .each i) ∙ q);
     }
 
 module _ (ws : List ℕ) (l : Layout) (us rows ys : List ℕ) (at : Visit) (memo : List ℕ) (d : LeafDue ws l us rows ys at memo) where
@@ -127,29 +136,26 @@ module _ (ws : List ℕ) (l : Layout) (us rows ys : List ℕ) (at : Visit) (memo
   leaf-long = sym (d .stands .bounds .values .long)
 
   -- what its cost asks
-  pub leaf-rows : Rows (problemOf ws) (placed (problemOf ws) (entry (at .node .starts)) (l .units)) rows
+  pub leaf-rows : RowsOfAll (problemOf ws) (entry (at .node .starts)) rows
   unfolding LeafDue
-  leaf-rows = subst (λ (k : ℕ). Rows (problemOf ws) (placed (problemOf ws) (entry (at .node .starts)) k) rows) (d .whole) (d .tallied)
-
-  -- there are sixteen units at most
-  pub leaf-few : at .node .unit < 32
-  unfolding LeafDue
-  leaf-few = omega (arith, d .whole, file .units-most)
+  leaf-rows =
+      rows-all (problemOf ws) rows (has (at .node .placed)) (entry (at .node .starts)) (d .tallied)
+      (λ i h. d .order .each i ∙ lt-ltb i (at .node .unit) (omega (arith, d .whole, file .units-are)))
 
   -- the memo recalls what it did
   pub leaf-recalls : (memo₁ : List ℕ) → Right (problemOf ws) memo₁ → Others memo memo₁ → MemoTrue (problemOf ws) (priceIn us) memo₁
   unfolding LeafDue
   leaf-recalls memo₁ = recalls-others (problemOf ws) (priceIn us) memo memo₁ (d .walking .recalls)
 
-  module _ (cost : ℕ) (e : cost ≡ paid (problemOf ws) (placed (problemOf ws) (entry (at .node .starts)) (l .units))) where
+  module _ (cost : ℕ) (e : cost ≡ paid (problemOf ws) (outIn (problemOf ws) (entry (at .node .starts)))) where
     -- the schedule costs the limit or more, and all are to blame
-    pub leaf-dear : (b : ℕ) (step : Step) → at .state .limit .0 ≤ cost → ((i : ℕ) → has b i ≡ ltb i (at .node .unit)) → step ≡ deadAt (at .state) b
+    pub leaf-dear : (step : Step) → at .state .limit .0 ≤ cost → step ≡ deadAt (at .state) (at .node .placed)
         → Leaf (problemOf ws) (at .node .starts) (at .state) step
     unfolding LeafDue
-    leaf-dear b step le all is = inl (record {
-      b = b;
+    leaf-dear step le is = inl (record {
+      b = at .node .placed;
       is = is;
-      blames = all-blames ws l (entry (at .node .starts)) (at .node .unit) cost b (at .state .limit .0) file (d .whole) e le all;
+      blames = all-blames ws l (at .node) cost (at .state .limit .0) file (d .whole) (d .order) e le;
     })
 
     -- it costs less
@@ -159,11 +165,11 @@ module _ (ws : List ℕ) (l : Layout) (us rows ys : List ℕ) (at : Visit) (memo
       bounded = record {
         filed = file;
         dual = d .walking .dual;
-        placed = omega (arith, d .whole);
         permits = record { each = d .stands .standing .permits };
         bounds = d .stands .bounds;
       };
       whole = d .whole;
+      order = d .order;
       small = d .small;
       costs = e;
       less = less;
@@ -181,20 +187,21 @@ module _ (ws : List ℕ) (l : Layout) (us ys : List ℕ) (at : Visit) (c : Euro)
   -- those whose starts keep the bound there are to blame, or all
   pub better-of : (b : ℕ) (s : State) (step : Step) → Blamed (problemOf ws) us (at .node) (c .0) b → s ≡ improvedBy (at .state) (at .node .starts) c
       → step ≡ deadAt s b → Better (problemOf ws) (at .node .starts) (at .state) step
+  unfolding firstUnits
   better-of b s step h es is = record {
     c = c;
     b = b;
     is = is ∙ ap (λ (x : State). deadAt x b) es;
-    costs = d .costs ∙ ap (λ (k : ℕ). paid (problemOf ws) (placed (problemOf ws) (entry (at .node .starts)) k)) (sym (d .bounded .filed .units-are));
+    costs = d .costs;
     less = d .less;
     blames = go (decLe (c .0 + totalIn us) (at .node .bound .0));
   }
     where
-      go : Dec (c .0 + totalIn us ≤ at .node .bound .0) → Blames (problemOf ws) (entry (at .node .starts)) (problemOf ws .units) (c .0) b
+      go : Dec (c .0 + totalIn us ≤ at .node .bound .0)
+          → Blames (problemOf ws) (firstUnits (problemOf ws .units)) (entry (at .node .starts)) (c .0) b
       go (yes q) = record {
         closed = h .closed q;
-        within = λ i g. let k = h .within i g in omega (arith, d .whole, d .bounded .filed .units-are);
+        within = λ i g. sym (ap (ltb i) (d .whole ∙ sym (d .bounded .filed .units-are))) ∙ (sym (d .order .each i) ∙ h .within i g);
       }
-      go (no q) =
-          all-blames ws l (entry (at .node .starts)) (at .node .unit) (c .0) b (c .0) (d .bounded .filed) (d .whole) (d .costs) (omega arith)
-          (h .all (omega arith))
+      go (no q) = subst (Blames (problemOf ws) (firstUnits (problemOf ws .units)) (entry (at .node .starts)) (c .0)) (sym (h .all (omega arith)))
+          (all-blames ws l (at .node) (c .0) (c .0) (d .bounded .filed) (d .whole) (d .order) (d .costs) (omega arith))

@@ -22,8 +22,8 @@ use Rattle.model.specs.Order.{Same, Lower}
 use Rattle.overhaul.specs.Range.{StartRange}
 use Rattle.overhaul.proofs.StartLaws.{range-in, range-at, start-count}
 use Rattle.blame.specs.Closed.{Agree, Closed, Settled}
-use Rattle.blame.specs.Placed.{placed}
-use Rattle.blame.proofs.PlacedLaws.{placed-agree, standing-agree}
+use Rattle.blame.specs.Placed.{outOf}
+use Rattle.blame.proofs.PlacedLaws.{out-agree, standing-agree}
 use Rattle.dual.specs.declared.Node.{Node}
 use Rattle.dual.proofs.BoundsLaws.{bounds-agree}
 use Rattle.bound.specs.Rows.{Rows}
@@ -152,19 +152,23 @@ module _ (p : Problem) (w₀ w us rows ys : List ℕ) (node : Node) (st₀ st : 
       within : (s : Schedule) → Sound p s → Same (node .unit) (s .start) (entry (node .starts)) × (s .start (node .unit) < v) → st .limit .0 ≤ cost p s
       within s sound m = t .tried .costs s sound (λ i h e. m .0 i (t .under i e)) (m .1)
 
-  stands-here : Stands p us (entry (set (node .starts) (node .unit) v)) (node .unit) ys (node .bound .0)
-  stands-here =
-      let same : Same (node .unit) (entry (node .starts)) (entry (set (node .starts) (node .unit) v)) = λ k d. sym (put-below (node .starts) (node .unit) v k d) in
-      record {
-        standing = standing-agree p (entry (node .starts)) (entry (set (node .starts) (node .unit) v)) (node .unit) same (o .stands .standing);
-        bounds = bounds-agree p us (entry (node .starts)) (entry (set (node .starts) (node .unit) v)) ys (node .unit) (node .bound .0) same (o .stands .bounds);
-      }
+  -- the units placed have their starts still
+  same : (i : ℕ) → has (node .placed) i ≡ true → entry (node .starts) i ≡ entry (set (node .starts) (node .unit) v) i
+  same i e = sym (put-below (node .starts) (node .unit) v i (ltb-true i (node .unit) (sym (o .order .each i) ∙ e)))
 
-  tallied-here : Rows p (placed p (entry (set (node .starts) (node .unit) v)) (node .unit)) rows
+  stands-here : Stands p us (has (node .placed)) (entry (set (node .starts) (node .unit) v)) ys (node .bound .0)
+  stands-here = record {
+    standing = standing-agree p (has (node .placed)) (entry (node .starts)) (entry (set (node .starts) (node .unit) v)) same (o .stands .standing);
+    bounds = bounds-agree p us (has (node .placed)) (entry (node .starts)) (entry (set (node .starts) (node .unit) v)) ys (node .bound .0) same
+        (o .stands .bounds);
+  }
+
+  tallied-here : Rows p (outOf p (has (node .placed)) (entry (set (node .starts) (node .unit) v))) rows
   tallied-here = record {
     long = o .tallied .long;
     tallies = o .tallied .tallies;
-    sets = λ d l i. o .tallied .sets d l i ∙ placed-agree p (entry (node .starts)) (entry (set (node .starts) (node .unit) v)) (node .unit) (λ k m. sym (put-below (node .starts) (node .unit) v k m)) d i;
+    sets = λ d l i.
+        o .tallied .sets d l i ∙ out-agree p (has (node .placed)) (entry (node .starts)) (entry (set (node .starts) (node .unit) v)) same d i;
   }
 
   -- the next start is tried
@@ -173,6 +177,7 @@ module _ (p : Problem) (w₀ w us rows ys : List ℕ) (node : Node) (st₀ st : 
     unit = inside;
     long = omega (arith, o .long, length-set (node .starts) (node .unit) v);
     permits = ap (permitted p (node .unit)) (put-here (node .starts) (node .unit) v long) ∙ permits-here;
+    order = record { each = o .order .each };
     stands = stands-here;
     tallied = tallied-here;
     settled = settled-here;

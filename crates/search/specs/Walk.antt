@@ -1,7 +1,7 @@
 -- The walk of one ask: what its state says of all schedules, before and after a unit is placed and a start is tried. Units count from 0, starts
 -- from 1. The limit is exclusive: a schedule is wanted when it costs less, and a plan's cost is the limit of all that come after it.
 -- Assumes nothing.
-use Prim.Native.Nat.{ℕ, suc, _+_, _-_, _*_, _≤_, _<_}
+use Prim.Native.Nat.{ℕ, suc, _+_, _-_, _≤_, _<_}
 use mathlib.Core.Path.{_≡_}
 use mathlib.Core.Bool.{Bool, true, false, _||_}
 use mathlib.Core.List.{List}
@@ -12,15 +12,15 @@ use Rattle.sums.specs.NumSet.{has, without}
 use Rattle.sums.specs.Table.{entry}
 use Rattle.model.specs.declared.Layout.{Layout}
 use Rattle.model.specs.Problem.{Problem}
-use Rattle.model.specs.Domain.{permitted, startCount}
-use Rattle.model.specs.Schedule.{Schedule, Sound, cost}
+use Rattle.model.specs.Domain.{permitted}
+use Rattle.model.specs.Schedule.{Schedule, outIn, Sound, cost}
 use Rattle.model.specs.Order.{Same, Lower, Earlier}
 use Rattle.model.specs.Prefix.{treeSize, passed}
 use Rattle.model.specs.Nogood.{MOST_LIMIT, Nogood}
 use Rattle.model.specs.Words.{problemOf}
 use Rattle.instance.specs.Filed.{Filed}
 use Rattle.blame.specs.Closed.{Closed, Settled}
-use Rattle.blame.specs.Placed.{placed, paid, planOf}
+use Rattle.blame.specs.Placed.{firstUnits, outOf, paid, planOf}
 use Rattle.nogood.specs.Noting.{KEPT_FREE}
 use Rattle.nogood.specs.Stock.{Stock, Grown, DeadEnds}
 use Rattle.bound.specs.Rows.{Rows}
@@ -28,7 +28,7 @@ use Rattle.tables.specs.Tables.{priceIn}
 use Rattle.relaxation.specs.Relaxed.{MemoTrue}
 use Rattle.dual.specs.declared.Node.{Node}
 use Rattle.dual.specs.Dual.{Dual}
-use Rattle.dual.specs.Blame.{nextNode, Bounded}
+use Rattle.dual.specs.Blame.{IsNext, Bounded}
 use Rattle.bound.specs.declared.Trial.{Trial}
 use Rattle.bound.specs.declared.Trial.the-variants.{Holds, Fails}
 use Rattle.bound.specs.Tests.{Blames, Stands, Judged}
@@ -100,18 +100,23 @@ placeRoom p j = treeSize p (p .units - j) - 1
 
 -- a node with start v for its unit
 abbrev pub startAt : Node → ℕ → Node
-startAt node v = record { starts = set (node .starts) (node .unit) v; unit = node .unit; bound = node .bound }
+startAt node v = record { starts = set (node .starts) (node .unit) v; unit = node .unit; bound = node .bound; placed = node .placed }
 
 -- a visit of a node with start v for its unit, in a state
 pub record IsStart (node : Node) (v : ℕ) (st : State) (at : Visit) : Type 0 where
   pub is : at ≡ record { node = startAt node v; state = st }
 
+-- a walk in the paper's order: the units placed are those below the node's own
+pub record InOrder (node : Node) : Type 0 where
+  pub each : (i : ℕ) → has (node .placed) i ≡ ltb i (node .unit)
+
 -- before the node's unit is placed: the units below it stand, all schedules before this place are settled, and no more was tried than lies before it
 pub record Open (p : Problem) (w us rows ys : List ℕ) (node : Node) (st : State) : Type 0 where
   pub unit : node .unit ≤ p .units
   pub long : p .units ≤ length (node .starts)
-  pub stands : Stands p us (entry (node .starts)) (node .unit) ys (node .bound .0)
-  pub tallied : Rows p (placed p (entry (node .starts)) (node .unit)) rows
+  pub order : InOrder node
+  pub stands : Stands p us (has (node .placed)) (entry (node .starts)) ys (node .bound .0)
+  pub tallied : Rows p (outOf p (has (node .placed)) (entry (node .starts))) rows
   pub settled : Settled p (entry (node .starts)) (node .unit) (st .limit .0)
   pub past : st .found ≡ true → Lower ltb (node .unit) (entry (st .best)) (entry (node .starts))
   pub counted : st .tries ≤ passed p (entry (node .starts)) (node .unit)
@@ -123,8 +128,9 @@ pub record Untried (p : Problem) (w us rows ys : List ℕ) (node : Node) (st : S
   pub unit : node .unit < p .units
   pub long : p .units ≤ length (node .starts)
   pub permits : permitted p (node .unit) (entry (node .starts) (node .unit)) ≡ true
-  pub stands : Stands p us (entry (node .starts)) (node .unit) ys (node .bound .0)
-  pub tallied : Rows p (placed p (entry (node .starts)) (node .unit)) rows
+  pub order : InOrder node
+  pub stands : Stands p us (has (node .placed)) (entry (node .starts)) ys (node .bound .0)
+  pub tallied : Rows p (outOf p (has (node .placed)) (entry (node .starts))) rows
   pub settled : Settled p (entry (node .starts)) (node .unit + 1) (st .limit .0)
   pub past : st .found ≡ true → Lower ltb (node .unit + 1) (entry (st .best)) (entry (node .starts))
   pub counted : st .tries < passed p (entry (node .starts)) (node .unit + 1)
@@ -163,19 +169,22 @@ pub record Judging (ws : List ℕ) (l : Layout) (us rows ys : List ℕ) (at : Vi
 unfoldable pub TryJudged : (ws : List ℕ) → Layout → (us rows ys : List ℕ) → Visit → (w memo zs memo₁ : List ℕ) → Trial → Type 0
 TryJudged ws l us rows ys at w memo zs memo₁ v = Judging ws l us rows ys at w memo zs memo₁ v
 
--- where the walk goes on: the try is counted, and where the start holds one unit more is placed
-abbrev pub nextVisit : Visit → Trial → Visit
-nextVisit at (Holds r) = record { node = nextNode (at .node) r; state = triedOnce (at .state) }
-nextVisit at (Fails b) = record { node = at .node; state = triedOnce (at .state) }
+-- where the walk goes on: where the start holds its unit is placed
+abbrev pub GoesTo : Node → Trial → Node → Type 0
+GoesTo node (Holds r) next = IsNext node r next
+GoesTo node (Fails b) next = next ≡ node
 
+-- and the try is counted
 pub record Deeper (at : Visit) (v : Trial) (r : Tried) : Type 0 where
   pub trial-is : r .trial ≡ v
-  pub goes-to : r .at ≡ nextVisit at v
+  pub node-is : GoesTo (at .node) v (r .at .node)
+  pub state-is : r .at .state ≡ triedOnce (at .state)
 
 -- a start was judged, and the walk goes on
 pub record Taken (ws : List ℕ) (l : Layout) (us rows ys : List ℕ) (at : Visit) (w memo zs memo₁ : List ℕ) (r : Tried) : Type 0 where
   pub judging : Judging ws l us rows ys at w memo zs memo₁ (r .trial)
-  pub goes-to : r .at ≡ nextVisit at (r .trial)
+  pub node-is : GoesTo (at .node) (r .trial) (r .at .node)
+  pub state-is : r .at .state ≡ triedOnce (at .state)
 
 unfoldable pub TryTaken : (ws : List ℕ) → Layout → (us rows ys : List ℕ) → Visit → (w memo zs memo₁ : List ℕ) → Tried → Type 0
 TryTaken ws l us rows ys at w memo zs memo₁ r = Taken ws l us rows ys at w memo zs memo₁ r
@@ -240,8 +249,9 @@ TryDone p w w′ at step = Done p w w′ (at .node .starts) (at .node .unit + 1)
 pub record LeafNeeds (ws : List ℕ) (l : Layout) (us rows ys : List ℕ) (at : Visit) (memo : List ℕ) : Type 0 where
   pub walking : Walking ws l us memo
   pub whole : at .node .unit ≡ l .units
-  pub stands : Stands (problemOf ws) us (entry (at .node .starts)) (at .node .unit) ys (at .node .bound .0)
-  pub tallied : Rows (problemOf ws) (placed (problemOf ws) (entry (at .node .starts)) (at .node .unit)) rows
+  pub order : InOrder (at .node)
+  pub stands : Stands (problemOf ws) us (has (at .node .placed)) (entry (at .node .starts)) ys (at .node .bound .0)
+  pub tallied : Rows (problemOf ws) (outOf (problemOf ws) (has (at .node .placed)) (entry (at .node .starts))) rows
   pub small : at .state .limit .0 ≤ MOST_LIMIT
 
 unfoldable pub LeafDue : (ws : List ℕ) → Layout → (us rows ys : List ℕ) → Visit → (memo : List ℕ) → Type 0
@@ -251,24 +261,25 @@ LeafDue ws l us rows ys at memo = LeafNeeds ws l us rows ys at memo
 pub record BetterDue (ws : List ℕ) (l : Layout) (us ys : List ℕ) (at : Visit) (c : ℕ) : Type 0 where
   pub bounded : Bounded ws l us (at .node) ys
   pub whole : at .node .unit ≡ l .units
+  pub order : InOrder (at .node)
   pub small : at .state .limit .0 ≤ MOST_LIMIT
-  pub costs : c ≡ paid (problemOf ws) (placed (problemOf ws) (entry (at .node .starts)) (l .units))
+  pub costs : c ≡ paid (problemOf ws) (outIn (problemOf ws) (entry (at .node .starts)))
   pub less : c < at .state .limit .0
 
 -- the schedule of these starts costs the limit or more, and the units of b are to blame
 pub record Dearer (p : Problem) (xs : List ℕ) (st : State) (step : Step) : Type 0 where
   pub b : ℕ
   pub is : step ≡ deadAt st b
-  pub blames : Blames p (entry xs) (p .units) (st .limit .0) b
+  pub blames : Blames p (firstUnits (p .units)) (entry xs) (st .limit .0) b
 
 -- it costs less: it is the best so far, and the units of b are to blame that all others with their starts cost as much
 pub record Better (p : Problem) (xs : List ℕ) (st : State) (step : Step) : Type 0 where
   pub c : Euro
   pub b : ℕ
   pub is : step ≡ deadAt (improvedBy st xs c) b
-  pub costs : c .0 ≡ paid p (placed p (entry xs) (p .units))
+  pub costs : c .0 ≡ paid p (outIn p (entry xs))
   pub less : c .0 < st .limit .0
-  pub blames : Blames p (entry xs) (p .units) (c .0) b
+  pub blames : Blames p (firstUnits (p .units)) (entry xs) (c .0) b
 
 -- one or the other
 abbrev pub Leaf : Problem → List ℕ → State → Step → Type 0
@@ -301,6 +312,7 @@ pub record Finished (p : Problem) (w w′ : List ℕ) (st : State) (step : Step)
 pub record AtRoot (bound : ℕ) (st : State) (at : Visit) : Type 0 where
   pub long : length (at .node .starts) ≡ 16
   pub none : at .node .unit ≡ 0
+  pub nobody : at .node .placed ≡ 0
   pub bound-is : at .node .bound .0 ≡ bound
   pub same : at .state ≡ st
 

@@ -30,6 +30,7 @@ fn root_visit(bound: Euro, st: State) -> Visit
             starts: [0; 16],
             unit: 0,
             bound,
+            placed: 0,
         },
         state: st,
     }

@@ -138,7 +138,7 @@ fn close_leaf(
     let limit = st.limit;
     let cost = bound::cost(words, l, rows, starts, memo);
     if limit.0 <= cost.0 {
-        return state::dead_end(st, sets::below(at.node.unit));
+        return state::dead_end(st, at.node.placed);
     }
     let mut next = *values;
     take_better(words, l, tables, at, cost, &mut next)
@@ -194,6 +194,7 @@ fn with_start(node: Node, v: usize, st: State) -> Visit
             starts,
             unit: j,
             bound,
+            placed: node.placed,
         },
         state: st,
     }

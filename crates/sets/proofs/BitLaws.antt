@@ -1,16 +1,16 @@
--- What the operations on a word do to the set it stands for: the bits of `a | b`, `a & b` and `a ^ b`, of `1 << i` and of `(1 << n) - 1`.
+-- What the operations on a word do to the set it stands for: the bits of `a | b`, `a & b` and `a ^ b`, and of `1 << i`.
 -- Assumes nothing.
-use Prim.Native.Nat.{ℕ, zero, suc, _+_, _-_, _*_, _/_, _%_, _^_, _≤_, _<_, min, max}
+use Prim.Native.Nat.{ℕ, zero, suc, _+_, _-_, _*_, _/_, _%_, _^_, _<_, min, max}
 use mathlib.Core.Path.{_≡_, refl, sym, _∙_, ap, ap₂}
 use mathlib.Core.Bool.{Bool, true, false, _&&_, _||_, not, xor}
-use native.Mathlib.Nat.{mod-lt, div-eq-of-lt, mul-mod-left, zero-lt-suc, div-self, mul-div-cancel, one-mul, pow-suc, lt-of-lt-of-le}
+use native.Mathlib.Nat.{mod-lt, div-eq-of-lt, mul-mod-left, zero-lt-suc, div-self, mul-div-cancel, one-mul, pow-suc}
 use native.Mathlib.Decide.{decLt, ℕ-discrete}
 use native.Mathlib.Omega.{arith}
 use lib.Arith.{digits-mod}
 use lib.Bits.{bitAnd, bitOr, bitXor, differ, and-shr, and-step, or-shr, or-step, xor-shr, xor-step}
-use lib.Dec.{eqb, ltb, lit<}
-use lib.Pow.{shl-exact, pow-pos, pow-add, pow-lt, pow-mono, ones-lt, ones-split, high}
-use borrow.Author.Tests.{eq-eqb, ne-eqb, lt-ltb, le-ltb}
+use lib.Dec.{eqb, lit<}
+use lib.Pow.{shl-exact, pow-pos, pow-add, pow-lt}
+use borrow.Author.Tests.{eq-eqb, ne-eqb}
 use Rattle.sums.specs.NumSet.{has, with, without}
 
 -- ---- the bits of `a | b`, `a & b` and `a ^ b`
@@ -95,10 +95,6 @@ pow-has i k = go (ℕ-discrete k i)
 shl-one : (i : ℕ) → i < 32 → 1 * 2 ^ i % 4294967296 ≡ 2 ^ i
 shl-one i h = shl-exact {a = 1} 1 i 32 (lit< tt) (omega arith) ∙ one-mul (2 ^ i)
 
--- 1 can be taken from it
-pub shl-some : (i : ℕ) → i < 32 → 1 ≤ 1 * 2 ^ i % 4294967296
-shl-some i h = rw (shl-one i h) (pow-pos i)
-
 -- a set with unit i added, as the code makes it
 pub with-has : (set i : ℕ) → i < 32 → (k : ℕ) → has (bitOr set (1 * 2 ^ i % 4294967296)) k ≡ with (has set) i k
 with-has set i h k = ap (λ (x : ℕ). has (bitOr set x) k) (shl-one i h) ∙ or-has set (2 ^ i) k ∙ ap (λ (b : Bool). has set k || b) (pow-has i k)
@@ -117,34 +113,3 @@ pub without-has : (set i : ℕ) → i < 32 → (k : ℕ)
 without-has set i h k =
     ap (λ (x : ℕ). has (bitXor (bitOr set x) x) k) (shl-one i h) ∙ xor-has (bitOr set (2 ^ i)) (2 ^ i) k
     ∙ ap₂ xor (or-has set (2 ^ i) k ∙ ap (λ (b : Bool). has set k || b) (pow-has i k)) (pow-has i k) ∙ cleared (has set k) (eqb k i)
-
--- ---- the bits of `(1 << n) - 1`
-
--- a bit below n
-ones-below : (n k : ℕ) → k < n → (2 ^ n - 1) / 2 ^ k % 2 ≡ 1
-ones-below n k h =
-    let d : ℕ = n - suc k in
-    let e : n ≡ d + 1 + k = omega arith in
-    ap (λ (x : ℕ). (2 ^ x - 1) / 2 ^ k % 2) e
-    ∙ ap (λ (x : ℕ). x / 2 ^ k % 2) (ones-split (d + 1) k)
-    ∙ ap (λ (x : ℕ). x % 2) (high (2 ^ (d + 1) - 1) k (ones-lt k))
-    ∙ ap (λ (x : ℕ). x % 2) (ones-split d 1)
-    ∙ digits-mod (2 ^ d - 1) (lit< tt)
-
--- a bit from n on
-ones-above : (n k : ℕ) → n ≤ k → (2 ^ n - 1) / 2 ^ k % 2 ≡ 0
-ones-above n k h = ap (λ (x : ℕ). x % 2) (div-eq-of-lt (lt-of-lt-of-le (ones-lt n) (pow-mono h)))
-
-ones-has : (n k : ℕ) → has (2 ^ n - 1) k ≡ ltb k n
-unfolding has
-ones-has n k = go (decLt k n)
-  where
-    go : Dec (k < n) → eqb ((2 ^ n - 1) / 2 ^ k % 2) 1 ≡ ltb k n
-    go (yes h) = ap (λ (x : ℕ). eqb x 1) (ones-below n k h) ∙ sym (lt-ltb k n h)
-    go (no h) =
-        let l : n ≤ k = omega arith in
-        ap (λ (x : ℕ). eqb x 1) (ones-above n k l) ∙ sym (le-ltb k n l)
-
--- the units below n, as the code makes them
-pub below-has : (n : ℕ) → n < 32 → (k : ℕ) → has (1 * 2 ^ n % 4294967296 - 1) k ≡ ltb k n
-below-has n h k = ap (λ (x : ℕ). has (x - 1) k) (shl-one n h) ∙ ones-has n k

@@ -2,7 +2,6 @@
 ghost use mathlib.Core.Path.{_≡_};
 ghost use mathlib.Core.Bool.{_&&_, _||_};
 ghost use Prim.Native.Nat.{ℕ, _<_};
-ghost use lib.Dec.{ltb};
 ghost use Rattle.sums.specs.NumSet.{has, with, without};
 
 // 2^16: the number of a set of 16 units lies below it.
@@ -46,12 +45,4 @@ pub fn intersection(a: u32, b: u32) -> u32
     ensures { λ r. ⌜ ((k : ℕ) → has r k ≡ (has a k && has b k)) ⌝ }
 {
     a & b
-}
-
-// The units below n.
-pub fn below(n: usize) -> u32
-    requires { ⌜ n < 32 ⌝ }
-    ensures { λ r. ⌜ ((k : ℕ) → has r k ≡ ltb k n) ⌝ }
-{
-    (1 << n) - 1
 }

@@ -14,4 +14,4 @@ returns-2 c = search blamed-some
 pub find-blame-spec : {M : Type 1} → statement M
 find-blame-spec =
     tie.close
-    (tie.spec (λ c κs. search needs) (λ c κs. search needs) returns (λ c κs. search needs) (λ c. search needs) returns-2)
+    (tie.spec (λ c κs. search needs) returns (λ c κs. search needs) (λ c. search needs) returns-2)

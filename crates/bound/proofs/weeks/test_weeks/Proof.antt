@@ -3,6 +3,7 @@
 use Prim.Native.Nat.{_-_, _≤_}
 use mathlib.Core.Path.{_≡_, refl}
 use lib.ListN.{length}
+use Rattle.sums.specs.NumSet.{has}
 use Rattle.sums.specs.Table.{entry}
 use Rattle.model.specs.Words.{problemOf}
 use Rattle.tables.specs.Tables.{priceIn}
@@ -14,7 +15,7 @@ use Rattle.bound.proofs.weeks.test_weeks.Statement.{statement}
 use Rattle.bound.proofs.weeks.test_weeks.Tie as tie
 
 abbrev Inv-loop : tie.InvT-loop
-Inv-loop words l tables rows node wanted values₀ memo₀ total₀ t₀ t-end values memo total t = (t₀ ≤ t) × (t ≤ t-end) × (t-end ≤ 52) × TestedTo (problemOf words) tables (entry (node .starts)) (node .unit) t values (total .0)
+Inv-loop words l tables rows node wanted values₀ memo₀ total₀ t₀ t-end values memo total t = (t₀ ≤ t) × (t ≤ t-end) × (t-end ≤ 52) × TestedTo (problemOf words) tables (has (node .placed)) (entry (node .starts)) (node .unit) t values (total .0)
     × MemoTrue (problemOf words) (priceIn tables) memo × (length values ≡ length values₀) × (length memo ≡ length memo₀)
 
 abbrev μ-loop : tie.MeasureT-loop

@@ -1,15 +1,12 @@
 -- `search::walk::close_leaf` meets its contract: the schedule is weighed against the limit.
 -- Assumes nothing.
-use Rattle.search.proofs.JudgedLaws.{leaf-filed, leaf-right, leaf-long, leaf-rows, leaf-few, leaf-recalls, leaf-dear, leaf-due, leaf-better}
+use Rattle.search.proofs.JudgedLaws.{leaf-filed, leaf-right, leaf-long, leaf-rows, leaf-recalls, leaf-dear, leaf-due, leaf-better}
 use borrow.Author.Needs.{needs}
 use Rattle.search.proofs.walk.close_leaf.Statement.{statement}
 use Rattle.search.proofs.walk.close_leaf.Tie as tie
 
 cost-requires : tie.Need-cost-requires
 cost-requires c κs = (search leaf-filed, search leaf-rows, search leaf-right)
-
-below-requires : tie.Need-below-requires
-below-requires c κs = search leaf-few
 
 returns : tie.Need-returns
 returns c = (search leaf-dear, search leaf-recalls)
@@ -28,7 +25,6 @@ close-leaf-spec =
     tie.close
     (tie.spec
     cost-requires
-    below-requires
     (λ c κs. search needs)
     (λ c. search needs)
     returns

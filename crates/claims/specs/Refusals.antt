@@ -16,9 +16,9 @@ use Rattle.model.specs.Drawing.{drawVerdict}
 use Rattle.model.specs.Judgement.{Judgement, soundAt, breaks, refusedGrid, judgeOf, judgeBytes, judgeInput}
 use Rattle.model.specs.Asks.{Ran}
 use Rattle.model.specs.Program.{inputFile, inputAsks, unitsVerdict, programVerdict}
-use Rattle.figures.specs.Files.{fileA, fileGap, fileWarm}
-use Rattle.figures.specs.Cases.{Case, _⟶_, Each, bytesA, askPair, askBytes, alike, bytesOf}
-use Rattle.figures.specs.FileRefusals.{endA, kindRows, offRows, rangeRows, windowRows, pairRows, fifthRows, endRows}
+use Rattle.claims.specs.Files.{fileA, fileGap, fileWarm}
+use Rattle.claims.specs.Cases.{Case, _⟶_, Each, bytesA, askPair, askBytes, alike, bytesOf}
+use Rattle.claims.specs.FileRefusals.{endA, kindRows, offRows, rangeRows, windowRows, pairRows, fifthRows, endRows}
 
 -- ---- asks (8 to 10)
 

@@ -24,7 +24,7 @@ use Rattle.model.specs.Refusal.{asksVerdict, blockSize}
 use Rattle.model.specs.Nogood.{Choice, Nogood, nogoodWords, nogoodsWords, boundsAlone}
 use Rattle.model.specs.Answer.{Answer, optimal, infeasible, incumbent, unknown, zeros, blocksOf}
 use Rattle.model.specs.Asks.{askCount, ceilingAt, budgetAt, answerAt, concludes, settled, leftAt}
-use Rattle.figures.specs.Rows.{Claim, cheapest, noneAt, none, conflict, noConflict, meeting, starts, rule, places, ranked, week, notWeek, weekCosts, right, wrong, noted, unfit, ran, wrongAnswers, wrongTable, Row, member, nobody}
+use Rattle.claims.specs.Rows.{Claim, cheapest, noneAt, none, conflict, noConflict, meeting, starts, rule, places, ranked, week, notWeek, weekCosts, right, wrong, noted, unfit, ran, wrongAnswers, wrongTable, Row, member, nobody}
 
 -- every one of the tests holds
 unfoldable pub every : List Bool → Bool

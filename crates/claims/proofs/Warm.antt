@@ -1,9 +1,9 @@
 -- OFF costs count as request #101 says: the rows' test is computed.
 -- Assumes nothing.
 use lib.Dec.{T}
-use Rattle.figures.specs.Tests.{computes}
-use Rattle.figures.specs.Warm.{warmRows, Warm}
-use Rattle.figures.proofs.RowLaws.{all-of-computed}
+use Rattle.claims.specs.Tests.{computes}
+use Rattle.claims.specs.Warm.{warmRows, Warm}
+use Rattle.claims.proofs.RowLaws.{all-of-computed}
 
 computed : T (computes warmRows)
 unfolding computes

@@ -15,8 +15,8 @@ use Rattle.model.specs.Answer.{Answer, optimal, infeasible, incumbent, unknown,
 use Rattle.model.specs.Program.{inputFile, inputAsks, Planned, refusedPlan, planned, plannedBy}
 use Rattle.model.specs.Judgement.{Judgement, soundAt, breaks, refusedGrid}
 use Rattle.model.specs.Lines.{printed, judgementText, Written, PlanPrinted}
-use Rattle.figures.specs.Files.{fileA, fileLong}
-use Rattle.figures.specs.Cases.{Case, _⟶_, Each, bytesA, askPair, askBytes, alike, bytesOf}
+use Rattle.claims.specs.Files.{fileA, fileLong}
+use Rattle.claims.specs.Cases.{Case, _⟶_, Each, bytesA, askPair, askBytes, alike, bytesOf}
 
 -- ---- bytes
 

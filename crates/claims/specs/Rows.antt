@@ -20,7 +20,7 @@ use Rattle.model.specs.Best.{Everywhere, NoneAllowed}
 use Rattle.model.specs.Nogood.{Nogood, Legal, Holds, IsNogood}
 use Rattle.model.specs.Answer.{Answer, Found, Correct}
 use Rattle.model.specs.Asks.{Ran}
-use Rattle.figures.specs.Files.{fileA, fileFour, fileOne, fileLong, fileTwo, fileGap}
+use Rattle.claims.specs.Files.{fileA, fileFour, fileOne, fileLong, fileTwo, fileGap}
 
 -- a claim about a file's problem
 pub data Claim : Type 0 where

@@ -18,7 +18,7 @@ use Rattle.model.specs.Rules.{output, headcount, ok1, ok4, unit4, keeps4, notOu
 use Rattle.model.specs.Schedule.{layOut}
 use Rattle.model.proofs.RuleLaws.{Rules, broken-none, units-keep, weeks-keep}
 use Rattle.model.proofs.ScheduleLaws.{maint-not-on}
-use Rattle.figures.specs.General.{OneUnit, OneCrew, Gapped, Idle, IdleKeeps, General}
+use Rattle.claims.specs.General.{OneUnit, OneCrew, Gapped, Idle, IdleKeeps, General}
 
 -- ---- one week
 

@@ -28,9 +28,9 @@ use Rattle.model.specs.Nogood.{Nogood, Holds, IsNogood}
 use Rattle.model.specs.Answer.{Answer, optimal, infeasible, incumbent, unknown, Found, Marked, Correct}
 use Rattle.model.proofs.DomainLaws.{permits-below}
 use Rattle.model.proofs.CommitmentLaws.{cheapest-right, cheapest-picked, none-picked}
-use Rattle.figures.specs.Rows.{member}
-use Rattle.figures.specs.Tests.{isSound, everySound, isEarlier, anywhere, isBefore, notBetter, dearer, foundTests, isFound, isNone, placeTests, isPlace, isMarked, isCorrect, takes, notTaken, isLegal, nogoodTests, isNogood, below, startIs, breaksRule, samePick, isAccepted}
-use Rattle.figures.proofs.TestLaws.{all-hold-at, all-hold-of, sound-of, sound-at, listed, listed-cost, listed-place, every-at, every-of, earlier-of, earlier-at, legal-of, legal-test, takes-of, takes-at}
+use Rattle.claims.specs.Rows.{member}
+use Rattle.claims.specs.Tests.{isSound, everySound, isEarlier, anywhere, isBefore, notBetter, dearer, foundTests, isFound, isNone, placeTests, isPlace, isMarked, isCorrect, takes, notTaken, isLegal, nogoodTests, isNogood, below, startIs, breaksRule, samePick, isAccepted}
+use Rattle.claims.proofs.TestLaws.{all-hold-at, all-hold-of, sound-of, sound-at, listed, listed-cost, listed-place, every-at, every-of, earlier-of, earlier-at, legal-of, legal-test, takes-of, takes-at}
 
 -- ---- claims about all schedules
 

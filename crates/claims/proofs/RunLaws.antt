@@ -24,10 +24,10 @@ use Rattle.model.specs.Asks.{askCount, ceilingAt, budgetAt, answerAt, Follows, 
 use Rattle.model.proofs.NogoodLaws.{bounds-alone-append, nogoods-determined}
 use Rattle.model.proofs.AnswerLaws.{block-length, block-determined}
 use Rattle.model.proofs.FileLaws.{fair}
-use Rattle.figures.specs.Rows.{Meets, Refuses}
-use Rattle.figures.specs.Tests.{sameList, isNogood, areNogoods, deadEndsBelow, writtenTests, isWritten, isPlan, isInfeasible, isFollowed, rightAt, followsFrom, followsAt, isTold, isAnswered, boundsOf, isEmpty, leavesAt, leftTests, isLeft, joined, mayLeave, lentTests, isLent}
-use Rattle.figures.proofs.TestLaws.{AllHold, all-hold-at, same-list-at, same-list-of}
-use Rattle.figures.proofs.ClaimLaws.{correct-of, correct-test, nogood-of, accepted-of, not-met}
+use Rattle.claims.specs.Rows.{Meets, Refuses}
+use Rattle.claims.specs.Tests.{sameList, isNogood, areNogoods, deadEndsBelow, writtenTests, isWritten, isPlan, isInfeasible, isFollowed, rightAt, followsFrom, followsAt, isTold, isAnswered, boundsOf, isEmpty, leavesAt, leftTests, isLeft, joined, mayLeave, lentTests, isLent}
+use Rattle.claims.proofs.TestLaws.{AllHold, all-hold-at, same-list-at, same-list-of}
+use Rattle.claims.proofs.ClaimLaws.{correct-of, correct-test, nogood-of, accepted-of, not-met}
 
 -- ---- answers that follow
 

@@ -4,8 +4,8 @@
 use mathlib.Core.List.{List, [], _∷_}
 use Rattle.model.specs.Commitment.{nothing, picked}
 use Rattle.model.specs.Answer.{optimal}
-use Rattle.figures.specs.Files.{fileWarm, fileZeros}
-use Rattle.figures.specs.Rows.{Row, on, All, cheapest, noneAt, conflict, noConflict, week, notWeek, weekCosts, wrong, firstAtOne}
+use Rattle.claims.specs.Files.{fileWarm, fileZeros}
+use Rattle.claims.specs.Rows.{Row, on, All, cheapest, noneAt, conflict, noConflict, week, notWeek, weekCosts, wrong, firstAtOne}
 
 abbrev pub warmRows : List Row
 warmRows =

@@ -4,9 +4,9 @@ use mathlib.Core.Path.{refl}
 use mathlib.Core.List.{[], _∷_}
 use lib.Dec.{T}
 use Rattle.model.specs.Lines.{printed}
-use Rattle.figures.specs.Tests.{computes}
-use Rattle.figures.specs.Worked.{workedRow, WorkedRun, WorkedText, Worked}
-use Rattle.figures.proofs.RowLaws.{all-of-computed}
+use Rattle.claims.specs.Tests.{computes}
+use Rattle.claims.specs.Worked.{workedRow, WorkedRun, WorkedText, Worked}
+use Rattle.claims.proofs.RowLaws.{all-of-computed}
 
 computed : T (computes (workedRow ∷ []))
 unfolding computes

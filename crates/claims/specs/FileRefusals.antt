@@ -6,8 +6,8 @@ use mathlib.Core.List.{List, [], _∷_, _++_}
 use lib.ListN.{take, set, replicate}
 use Rattle.model.specs.Words.{_∶_}
 use Rattle.model.specs.Verdict.{Verdict, accepted, refused}
-use Rattle.figures.specs.Files.{fileA, fileOne}
-use Rattle.figures.specs.Cases.{Case, _⟶_, bodyThree}
+use Rattle.claims.specs.Files.{fileA, fileOne}
+use Rattle.claims.specs.Cases.{Case, _⟶_, bodyThree}
 
 -- file A with these words for its end word, which is at place 24
 abbrev pub endA : List ℕ → List ℕ

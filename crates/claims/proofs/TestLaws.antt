@@ -24,7 +24,7 @@ use Rattle.model.proofs.RuleLaws.{broken-none}
 use Rattle.model.proofs.ScheduleLaws.{sound-agree, cost-agree}
 use Rattle.model.proofs.CommitmentLaws.{free-of, free-at}
 use Rattle.model.proofs.OrderLaws.{lower-agree}
-use Rattle.figures.specs.Tests.{every, sameList, permitsAt, runAt, isSound, whereSound, withStarts, everySound, sameTo, lowerAt, isLower, isEarlier, takes, choiceTests, isLegal}
+use Rattle.claims.specs.Tests.{every, sameList, permitsAt, runAt, isSound, whereSound, withStarts, everySound, sameTo, lowerAt, isLower, isEarlier, takes, choiceTests, isLegal}
 
 -- ---- tests in a row
 

@@ -19,11 +19,11 @@ use Rattle.model.specs.Verdict.{accepted}
 use Rattle.model.specs.Reading.{readOf}
 use Rattle.model.specs.Answer.{optimal, infeasible}
 use Rattle.model.proofs.FileLaws.{ranged, fair}
-use Rattle.figures.specs.Rows.{Claim, cheapest, noneAt, none, conflict, noConflict, meeting, starts, rule, places, ranked, week, notWeek, weekCosts, right, wrong, noted, unfit, ran, wrongAnswers, wrongTable, Claimed, Row, All, nobody}
-use Rattle.figures.specs.Tests.{isCorrect, isNogood, isLegal, everySound, notTaken, isPlace, samePick, noConflictTests, startsTests, costTests, ranTests, wrongAnswersTests, wrongTableTests, isAccepted, claimTest, rowTest, tests, computes}
-use Rattle.figures.proofs.TestLaws.{all-hold-at, legal-of}
-use Rattle.figures.proofs.ClaimLaws.{nobody-of, place-of, correct-of, correct-test, conflict-of, refuted-of, nogood-of, nogood-test, starts-of, breaks-of, accepted-of, pick-of, pick-test, not-met}
-use Rattle.figures.proofs.RunLaws.{meets-of, answers-refused, table-refused}
+use Rattle.claims.specs.Rows.{Claim, cheapest, noneAt, none, conflict, noConflict, meeting, starts, rule, places, ranked, week, notWeek, weekCosts, right, wrong, noted, unfit, ran, wrongAnswers, wrongTable, Claimed, Row, All, nobody}
+use Rattle.claims.specs.Tests.{isCorrect, isNogood, isLegal, everySound, notTaken, isPlace, samePick, noConflictTests, startsTests, costTests, ranTests, wrongAnswersTests, wrongTableTests, isAccepted, claimTest, rowTest, tests, computes}
+use Rattle.claims.proofs.TestLaws.{all-hold-at, legal-of}
+use Rattle.claims.proofs.ClaimLaws.{nobody-of, place-of, correct-of, correct-test, conflict-of, refuted-of, nogood-of, nogood-test, starts-of, breaks-of, accepted-of, pick-of, pick-test, not-met}
+use Rattle.claims.proofs.RunLaws.{meets-of, answers-refused, table-refused}
 
 claim-of : (f : List ℕ) (c : Claim) → readOf f ≡ accepted → claimTest f (problemOf f) c ≡ true → Claimed f c
 unfolding claimTest isCorrect

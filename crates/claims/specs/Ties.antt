@@ -4,8 +4,8 @@
 use mathlib.Core.List.{List, [], _∷_}
 use Rattle.model.specs.Commitment.{nothing, picked}
 use Rattle.model.specs.Answer.{optimal}
-use Rattle.figures.specs.Files.{fileFour, fileTies, filePair, fileWindows, fileApart}
-use Rattle.figures.specs.Rows.{Row, on, All, cheapest, noneAt, starts, week, notWeek, wrong}
+use Rattle.claims.specs.Files.{fileFour, fileTies, filePair, fileWindows, fileApart}
+use Rattle.claims.specs.Rows.{Row, on, All, cheapest, noneAt, starts, week, notWeek, wrong}
 
 abbrev pub tieRows : List Row
 tieRows =

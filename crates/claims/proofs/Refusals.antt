@@ -22,11 +22,11 @@ use Rattle.model.specs.Drawing.{drawVerdict}
 use Rattle.model.specs.Judgement.{judgeOf, judgeInput}
 use Rattle.model.specs.Program.{programVerdict}
 use Rattle.model.proofs.ReadingLaws.{refused-not}
-use Rattle.figures.specs.Files.{fileA}
-use Rattle.figures.specs.Cases.{bytesOf, Each, askPair}
-use Rattle.figures.specs.FileRefusals.{kindRows, offRows, rangeRows, windowRows, pairRows, fifthRows, endRows}
-use Rattle.figures.specs.Refusals.{askRows, lentFor, memoryRows, largeRows, runRows, gridRows, formulaRows, warmGridRows, bytesRows, drawRows, inputRows, judgeRows, LongInput, ReadInput, sizeRows, sizingRows, RefusedRun, NoCause, Refusals}
-use Rattle.figures.proofs.CaseLaws.{each-of}
+use Rattle.claims.specs.Files.{fileA}
+use Rattle.claims.specs.Cases.{bytesOf, Each, askPair}
+use Rattle.claims.specs.FileRefusals.{kindRows, offRows, rangeRows, windowRows, pairRows, fifthRows, endRows}
+use Rattle.claims.specs.Refusals.{askRows, lentFor, memoryRows, largeRows, runRows, gridRows, formulaRows, warmGridRows, bytesRows, drawRows, inputRows, judgeRows, LongInput, ReadInput, sizeRows, sizingRows, RefusedRun, NoCause, Refusals}
+use Rattle.claims.proofs.CaseLaws.{each-of}
 
 -- ---- files
 

@@ -19,10 +19,10 @@ use Rattle.model.specs.Answer.{blocksOf}
 use Rattle.model.specs.Asks.{askCount}
 use Rattle.model.specs.Program.{inputFile, inputAsks, programVerdict, plannedBy}
 use Rattle.model.specs.Lines.{printed, judgementText}
-use Rattle.figures.specs.Files.{fileA}
-use Rattle.figures.specs.Cases.{Each, askBytes, alike, bytesOf}
-use Rattle.figures.specs.Encodings.{wordRows, figureRows, loadedRows, fileEndRows, splitRows, drawnRows, drawnIntoRows, drawnA, blockRows, nogoodRows, lineRows, judgedRows, refusedFifteen, WrittenBytes, PrintedRefusal, toldRows, Encodings}
-use Rattle.figures.proofs.CaseLaws.{each-of}
+use Rattle.claims.specs.Files.{fileA}
+use Rattle.claims.specs.Cases.{Each, askBytes, alike, bytesOf}
+use Rattle.claims.specs.Encodings.{wordRows, figureRows, loadedRows, fileEndRows, splitRows, drawnRows, drawnIntoRows, drawnA, blockRows, nogoodRows, lineRows, judgedRows, refusedFifteen, WrittenBytes, PrintedRefusal, toldRows, Encodings}
+use Rattle.claims.proofs.CaseLaws.{each-of}
 
 words : Each (λ b. wordsTo (b .0) (b .1)) wordRows
 unfolding wordsTo listTo

@@ -8,8 +8,8 @@ use Rattle.model.specs.Nogood.{Nogood}
 use Rattle.model.specs.Answer.{Answer, optimal, infeasible, zeros}
 use Rattle.model.specs.Program.{planned}
 use Rattle.model.specs.Lines.{printed}
-use Rattle.figures.specs.Files.{fileA}
-use Rattle.figures.specs.Rows.{Row, Meets, ran}
+use Rattle.claims.specs.Files.{fileA}
+use Rattle.claims.specs.Rows.{Row, Meets, ran}
 
 -- two asks: ceiling 100 with budget 12, ceiling 18 with budget 1
 abbrev pub asksA : List ℕ

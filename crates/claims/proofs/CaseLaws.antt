@@ -3,7 +3,7 @@
 use mathlib.Core.Path.{_≡_, ap}
 use mathlib.Core.List.{List, [], _∷_, map}
 use lib.ListN.{getD, drop}
-use Rattle.figures.specs.Cases.{Case, Each}
+use Rattle.claims.specs.Cases.{Case, Each}
 
 pub each-of : {A B : Type 0} (f : A → B) (cs : List (Case A B)) → map (λ c. f (c .given)) cs ≡ map (λ c. c .due) cs → Each f cs
 each-of f [] e = tt
