@@ -6,3 +6,5 @@ pub mod ClosedLaws
 pub mod BoundLaws
 -- units placed, week by week, and the schedule of all of them
 pub mod PlacedLaws
+-- a problem with all costs 0, and prices that show that there is no schedule
+pub mod FreeLaws

@@ -1,9 +1,9 @@
 -- Excluded pairs seen from one unit are formula (8), both ways; and the units that may be out together.
 -- Assumes nothing.
 use Prim.Native.Nat.{ℕ, _≤_, _<_}
-use mathlib.Core.Path.{_≡_, refl, sym, _∙_, subst}
+use mathlib.Core.Path.{_≡_, refl, sym, _∙_, ap, subst}
 use mathlib.Core.Bool.{Bool, true, false, _&&_}
-use mathlib.Core.Logic.{_⊎_, inl, inr}
+use mathlib.Core.Logic.{_⊎_, inl, inr, ⊎-elim}
 use native.Mathlib.Omega.{arith}
 use lib.Dec.{eqb}
 use borrow.Author.Tests.{eqb-true, eq-eqb}
@@ -69,6 +69,20 @@ pair-apart p n h = (
         (eq-eqb (p .pairA n) (p .pairA n) refl) (eq-eqb (p .pairB n) (p .pairB n) refl)
 
 -- ---- units that may be out together
+
+-- no two of them are an excluded pair
+pub compatible-clear : (p : Problem) (x : NumSet) (i j : ℕ) → Compatible p x → x i ≡ true → x j ≡ true → apart p i j ≡ false
+compatible-clear p x i j c f g = not-so (apart p i j) (λ e. by (apart-pair p i j e))
+  where
+    both : (n : ℕ) → n < p .pairs → x (p .pairA n) ≡ true → x (p .pairB n) ≡ true → ⊥
+    both n b a z = true-false (sym z ∙ c .apart n b a)
+
+    by : PairOf p i j → ⊥
+    by q =
+        ⊎-elim
+        (λ (z : (p .pairA (q .at) ≡ i) × (p .pairB (q .at) ≡ j)). both (q .at) (q .below) (ap x (z .0) ∙ f) (ap x (z .1) ∙ g))
+        (λ (z : (p .pairA (q .at) ≡ j) × (p .pairB (q .at) ≡ i)). both (q .at) (q .below) (ap x (z .0) ∙ g) (ap x (z .1) ∙ f))
+        (q .ends)
 
 -- a set that is the same below U is as compatible
 pub compatible-same : (p : Problem) (a b : NumSet) → ((i : ℕ) → i < p .units → b i ≡ a i) → Fair p → Compatible p a → Compatible p b

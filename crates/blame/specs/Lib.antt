@@ -4,3 +4,5 @@ pub mod Closed
 pub mod Placed
 -- lower bounds with prices
 pub mod Priced
+-- the problem with all costs 0
+pub mod Free

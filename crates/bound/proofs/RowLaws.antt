@@ -260,3 +260,11 @@ rows-joined p rows b starts j next h w = record {
   tallies = w .tallies;
   sets = λ t m i. w .sets t m i ∙ rw (h .sets t m i) (partly-all p b starts j t i);
 }
+
+-- ---- a row word read
+
+pub row-units-of : (word : ℕ) (y : Tally) → y ≡ tallyOf word → y .out ≡ word % SETS
+row-units-of word y e = ap (λ (x : Tally). x .out) e
+
+pub row-count-of : (word : ℕ) (y : Tally) → y ≡ tallyOf word → y .count ≡ word / SETS % COUNTS
+row-count-of word y e = ap (λ (x : Tally). x .count) e

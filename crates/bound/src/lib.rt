@@ -10,7 +10,7 @@ use model::NO_RUN;
 use tables::TABLES;
 use tallies::ROW_SETS;
 ghost use mathlib.Core.Path.{_≡_};
-ghost use Prim.Native.Nat.{_+_, _%_, _<_, _≤_};
+ghost use Prim.Native.Nat.{_+_, _/_, _%_, _<_, _≤_};
 ghost use lib.ListN.{replicate};
 ghost use Rattle.sums.specs.Sum.{sumTo};
 ghost use Rattle.sums.specs.NumSet.{has};
@@ -25,7 +25,7 @@ ghost use Rattle.memo.specs.Memo.{Right, Others};
 ghost use Rattle.blame.specs.Placed.{paid, runOf};
 ghost use Rattle.tables.specs.Tables.{priceIn, leastIn};
 ghost use Rattle.relaxation.specs.Relaxed.{MemoTrue};
-ghost use Rattle.bound.specs.Rows.{MOST_WEEK, tallyOf, RowsDue, RowsWith, RowsOfAll};
+ghost use Rattle.bound.specs.Rows.{COUNTS, MOST_WEEK, tallyOf, RowsDue, RowsWith, RowsOfAll};
 ghost use Rattle.bound.specs.Tests.{Judged, RootValues, Rooted};
 ghost use Rattle.bound.specs.Tests.{StartBounded, withStart, Weighing, TestDue, RootDue};
 ghost use Rattle.bound.specs.Tests.{MOST_LEAST, someStartless, Permits, RunsOf};
@@ -66,6 +66,22 @@ pub fn no_rows() -> [u64; 52]
     ensures { λ r. ⌜ r ≡ replicate 52 0 ⌝ }
 {
     [0; 52]
+}
+
+// The units out in a row word.
+pub fn row_units(word: u64) -> u32
+    ensures { λ r. ⌜ r ≡ word % SETS ⌝ }
+{
+    let y = tallies::tally(word);
+    y.out
+}
+
+// How many they are.
+pub fn row_count(word: u64) -> usize
+    ensures { λ r. ⌜ r ≡ word / SETS % COUNTS ⌝ }
+{
+    let y = tallies::tally(word);
+    y.count
 }
 
 // ---- a start

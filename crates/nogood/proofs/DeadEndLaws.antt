@@ -1,7 +1,7 @@
 -- The starts of units who share the blame make a nogood: permitted choices, units rising, and a claim that is true at its bound.
 -- Assumes nothing.
 use Prim.Native.Nat.{ℕ, zero, suc, _+_, _-_, _≤_, _<_}
-use mathlib.Core.Path.{_≡_, sym, _∙_, ap}
+use mathlib.Core.Path.{_≡_, refl, sym, _∙_, ap}
 use mathlib.Core.Bool.{Bool, true, false}
 use mathlib.Core.List.{List, [], _∷_, _++_}
 use mathlib.Core.Logic.{⊎-elim}
@@ -55,20 +55,20 @@ legal-both p u v [] (d ∷ ds) l h b g = (omega (arith, g .0), g .1, g .2, g .3)
 legal-both p u v (c ∷ cs) ds l h b g = (h .0, h .1, h .2, legal-both p (c .unit + 1) v cs ds (omega (arith, b .0)) (h .3) (b .1) g)
 
 module _ (p : Problem) (starts : ℕ → ℕ) (b : NumSet) where
-  choice-legal : (k : ℕ) → k < p .units → permitted p k (starts k) ≡ true → Legal p k (choiceOf starts b k)
+  choice-legal : (k : ℕ) → k < p .units → (b k ≡ true → permitted p k (starts k) ≡ true) → Legal p k (choiceOf starts b k)
   unfolding choiceOf
-  choice-legal k l e = go (b k)
+  choice-legal k l e = go (b k) e
     where
-      go : (t : Bool) → Legal p k (if t (record { unit = k; start = starts k } ∷ []) [])
-      go true = (omega arith, l, e, tt)
-      go false = tt
+      go : (t : Bool) → (t ≡ true → permitted p k (starts k) ≡ true) → Legal p k (if t (record { unit = k; start = starts k } ∷ []) [])
+      go true h = (omega arith, l, h refl, tt)
+      go false h = tt
 
-  choices-legal : (k : ℕ) → k ≤ p .units → ((i : ℕ) → i < k → permitted p i (starts i) ≡ true) → Legal p 0 (choicesOf starts b k)
+  choices-legal : (k : ℕ) → k ≤ p .units → ((i : ℕ) → b i ≡ true → permitted p i (starts i) ≡ true) → Legal p 0 (choicesOf starts b k)
   unfolding choicesOf
   choices-legal zero l h = tt
   choices-legal (suc k) l h =
-      legal-both p 0 k (choicesOf starts b k) (choiceOf starts b k) (omega arith) (choices-legal k (omega arith) (λ i m. h i (omega arith)))
-      (choices-below starts b k) (choice-legal k (omega arith) (h k (omega arith)))
+      legal-both p 0 k (choicesOf starts b k) (choiceOf starts b k) (omega arith) (choices-legal k (omega arith) h)
+      (choices-below starts b k) (choice-legal k (omega arith) (h k))
 
 -- ---- the claim
 
@@ -103,7 +103,7 @@ module _ (starts : ℕ → ℕ) (b : NumSet) (s : Schedule) where
 
 -- a dead end of permitted starts is a nogood, at the bound below the limit
 pub dead-end-nogood : (p : Problem) (starts : ℕ → ℕ) (b : NumSet) (k limit : ℕ) → 1 ≤ limit → limit ≤ MOST_LIMIT → k ≤ p .units
-    → length (choicesOf starts b k) ≤ 8 → ((i : ℕ) → i < k → permitted p i (starts i) ≡ true) → ((i : ℕ) → b i ≡ true → i < k)
+    → length (choicesOf starts b k) ≤ 8 → ((i : ℕ) → b i ≡ true → permitted p i (starts i) ≡ true) → ((i : ℕ) → b i ≡ true → i < k)
     → Closed p b starts limit → IsNogood p (nogoodFor starts b k limit)
 dead-end-nogood p starts b k limit low high l few permits inside closed = record {
   few = few;

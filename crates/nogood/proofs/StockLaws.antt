@@ -10,7 +10,7 @@ use lib.Seq.{take-at, drop-append-add}
 use lib.Dec.{eqb}
 use borrow.Author.Tests.{eqb-false}
 use Rattle.sums.specs.Logic.{if}
-use Rattle.sums.specs.NumSet.{has}
+use Rattle.sums.specs.NumSet.{NumSet, has}
 use Rattle.sums.specs.Table.{entry}
 use Rattle.model.specs.Problem.{Problem, Fair}
 use Rattle.model.specs.Domain.{permitted}
@@ -166,7 +166,7 @@ none-alone g l = go (g .choices) l
 
 -- a table with a dead end that was noted, or left out
 pub stock-noted : (p : Problem) (gs : List Nogood) (words xs : List ℕ) (used k b limit : ℕ) → Stock p gs words used → k ≤ p .units → limit ≤ MOST_LIMIT
-    → ((i : ℕ) → i < k → permitted p i (entry xs i) ≡ true) → ((i : ℕ) → has b i ≡ true → i < k) → Closed p (has b) (entry xs) limit
+    → ((i : ℕ) → has b i ≡ true → permitted p i (entry xs i) ≡ true) → ((i : ℕ) → has b i ≡ true → i < k) → Closed p (has b) (entry xs) limit
     → Grown p DeadEnds gs (noted words used limit (nogoodFor (entry xs) (has b) k limit))
     (notedUsed (length words) used limit (nogoodFor (entry xs) (has b) k limit))
 unfolding noted notedUsed boundsAlone
@@ -258,10 +258,10 @@ ended-length words used limit = go (eqb limit 0)
 -- ---- a nogood recalled
 
 -- the starts that meet a nogood of the table whose bound covers the limit are a dead end
-pub recall-closed : (p : Problem) (gs : List Nogood) (words xs : List ℕ) (used k limit b : ℕ) → Fair p → p .weeks < 64 → p .units ≤ 16 → k ≤ p .units
-    → Stock p gs words used → Recall words xs k limit b → Closed p (has b) (entry xs) limit
-recall-closed p gs words xs used k limit b fair short few l s r = record {
-  costs = λ t sound on. by t (r .match .takes (t .start) (λ q h. on q (omega (arith, r .match .within q h)) h)) sound;
+pub recall-closed : (p : Problem) (gs : List Nogood) (words xs : List ℕ) (used : ℕ) (a : NumSet) (limit b : ℕ) → Fair p → p .weeks < 64 → p .units ≤ 16
+    → ((i : ℕ) → a i ≡ true → i < p .units) → Stock p gs words used → Recall words xs a limit b → Closed p (has b) (entry xs) limit
+recall-closed p gs words xs used a limit b fair short few inside s r = record {
+  costs = λ t sound on. by t (r .match .takes (t .start) (λ q h. on q (inside q (r .match .within q h)) h)) sound;
 }
   where
     by : (t : Schedule) → Has words (r .at) (t .start) → Sound p t → limit ≤ cost p t

@@ -5,7 +5,7 @@ use mathlib.Core.Path.{_≡_}
 use mathlib.Core.Bool.{true}
 use mathlib.Core.List.{List}
 use lib.ListN.{length, getD}
-use Rattle.sums.specs.NumSet.{has}
+use Rattle.sums.specs.NumSet.{NumSet, has}
 use Rattle.sums.specs.Table.{entry}
 use Rattle.model.specs.Words.{kindOf, valueOf}
 use Rattle.nogood.specs.declared.Scan.{Scan}
@@ -19,9 +19,10 @@ CHOICE_RADIX = 64
 abbrev pub Chosen : (ℕ → ℕ) → ℕ → Type 0
 Chosen starts x = starts (valueOf x / CHOICE_RADIX - 1) ≡ valueOf x % CHOICE_RADIX
 
--- u is the unit, from 1 and one of the first k, of a choice x that xs has; or 0
-pub record UnitMet (xs : List ℕ) (k x u : ℕ) : Type 0 where
-  pub most : u ≤ k
+-- u is the unit, from 1 and one of a, of a choice x that xs has; or 0
+pub record UnitMet (xs : List ℕ) (a : NumSet) (x u : ℕ) : Type 0 where
+  pub few : u ≤ 16
+  pub placed : 1 ≤ u → a (u - 1) ≡ true
   pub unit : 1 ≤ u → u ≡ valueOf x / CHOICE_RADIX
   pub start : 1 ≤ u → entry xs (u - 1) ≡ valueOf x % CHOICE_RADIX
 
@@ -33,25 +34,25 @@ Choices w i m = (q : ℕ) → i < q → q ≤ m → kindOf (getD w q 0) ≡ 14
 pub record Has (w : List ℕ) (i : ℕ) (starts : ℕ → ℕ) : Type 0 where
   pub each : (m : ℕ) → i < m → Choices w i m → Chosen starts (getD w m 0)
 
--- whoever has the starts of xs for the units of b, all below k, has all choices of the nogood at i
-pub record Match (w xs : List ℕ) (k i b : ℕ) : Type 0 where
+-- whoever has the starts of xs for the units of b, all of a, has all choices of the nogood at i
+pub record Match (w xs : List ℕ) (a : NumSet) (i b : ℕ) : Type 0 where
   pub takes : (starts : ℕ → ℕ) → ((q : ℕ) → has b q ≡ true → starts q ≡ entry xs q) → Has w i starts
-  pub within : (q : ℕ) → has b q ≡ true → q < k
+  pub within : (q : ℕ) → has b q ≡ true → a q ≡ true
 
 -- a nogood of the table whose choices xs has, and whose bound is at or above the walk's own, limit - 1
-pub record Recall (w xs : List ℕ) (k limit b : ℕ) : Type 0 where
+pub record Recall (w xs : List ℕ) (a : NumSet) (limit b : ℕ) : Type 0 where
   pub at : ℕ
   pub below : at < length w
   pub bound : kindOf (getD w at 0) ≡ 13
   pub covers : limit ≤ valueOf (getD w at 0) + 1
-  pub match : Match w xs k at b
+  pub match : Match w xs a at b
 
 -- what is said of one nogood
-abbrev pub Matched : (w xs : List ℕ) (k i : ℕ) → Scan → Type 0
-Matched w xs k i Miss = Unit {0}
-Matched w xs k i (Cut b) = Match w xs k i b
+abbrev pub Matched : (w xs : List ℕ) (a : NumSet) (i : ℕ) → Scan → Type 0
+Matched w xs a i Miss = Unit {0}
+Matched w xs a i (Cut b) = Match w xs a i b
 
 -- and of the table: a nogood may be missed, which costs time and nothing else; one that cuts is there
-abbrev pub Recalled : (w xs : List ℕ) (k limit : ℕ) → Scan → Type 0
-Recalled w xs k limit Miss = Unit {0}
-Recalled w xs k limit (Cut b) = Recall w xs k limit b
+abbrev pub Recalled : (w xs : List ℕ) (a : NumSet) (limit : ℕ) → Scan → Type 0
+Recalled w xs a limit Miss = Unit {0}
+Recalled w xs a limit (Cut b) = Recall w xs a limit b

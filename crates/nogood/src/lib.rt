@@ -167,17 +167,22 @@ pub fn conclude(table: &mut [u32], used: usize, limit: u64) -> usize
     used + 1
 }
 
-// The unit, from 1, of a choice's word, where it is one of the first k and has that start; else 0.
-fn unit_met(starts: [u8; 16], k: usize, word: u32) -> usize
-    requires { ⌜ k ≤ 16 ⌝ }
-    ensures { λ r. ⌜ UnitMet starts k word r ⌝ }
+// No unit, counted from 1, comes after this one.
+const LAST_UNIT: usize = 16;
+
+// The unit, from 1, of a choice's word, where it is one of those placed and has that start; else 0.
+fn unit_met(starts: [u8; 16], placed: u32, word: u32) -> usize
+    ensures { λ r. ⌜ UnitMet starts (has placed) word r ⌝ }
 {
     let value = words::value_of(word);
     let unit = value / CHOICE_RADIX;
     if unit < 1 {
         return 0;
     }
-    if k < unit {
+    if LAST_UNIT < unit {
+        return 0;
+    }
+    if !sets::has(placed, unit - 1) {
         return 0;
     }
     if start_of(starts, unit - 1) != value % CHOICE_RADIX {
@@ -186,10 +191,10 @@ fn unit_met(starts: [u8; 16], k: usize, word: u32) -> usize
     unit
 }
 
-// Whether the starts of the first k units have all choices of the nogood at place i.
-fn matching(table: &[u32], starts: [u8; 16], k: usize, i: usize) -> Scan
-    requires { ⌜ (k ≤ 16) × (i < length (now table)) ⌝ }
-    ensures { λ r. ⌜ Matched (now (table .entry)) starts k i r ⌝ }
+// Whether the starts of the units placed have all choices of the nogood at place i.
+fn matching(table: &[u32], starts: [u8; 16], placed: u32, i: usize) -> Scan
+    requires { ⌜ i < length (now table) ⌝ }
+    ensures { λ r. ⌜ Matched (now (table .entry)) starts (has placed) i r ⌝ }
 {
     let mut b = 0;
     let mut m = i + 1;
@@ -198,7 +203,7 @@ fn matching(table: &[u32], starts: [u8; 16], k: usize, i: usize) -> Scan
         if words::kind_of(word) != 14 {
             return Scan::Cut(b);
         }
-        let unit = unit_met(starts, k, word);
+        let unit = unit_met(starts, placed, word);
         if unit < 1 {
             return Scan::Miss;
         }
@@ -208,10 +213,10 @@ fn matching(table: &[u32], starts: [u8; 16], k: usize, i: usize) -> Scan
     Scan::Cut(b)
 }
 
-// Whether a nogood at place i holds for the limit and has choices that the starts of the first k units have.
-fn meets(table: &[u32], starts: [u8; 16], k: usize, limit: u64, i: usize) -> Scan
-    requires { ⌜ (k ≤ 16) × (i < length (now table)) ⌝ }
-    ensures { λ r. ⌜ Recalled (now (table .entry)) starts k limit r ⌝ }
+// Whether a nogood at place i holds for the limit and has choices that the starts of the units placed have.
+fn meets(table: &[u32], starts: [u8; 16], placed: u32, limit: u64, i: usize) -> Scan
+    requires { ⌜ i < length (now table) ⌝ }
+    ensures { λ r. ⌜ Recalled (now (table .entry)) starts (has placed) limit r ⌝ }
 {
     let word = table[i];
     if words::kind_of(word) != 13 {
@@ -219,19 +224,27 @@ fn meets(table: &[u32], starts: [u8; 16], k: usize, limit: u64, i: usize) -> Sca
     }
     let bound = words::value_of(word) as u64;
     if limit <= bound + 1 {
-        return matching(table, starts, k, i);
+        return matching(table, starts, placed, i);
     }
     Scan::Miss
 }
 
-// Looks for a nogood that holds for the limit and whose choices the starts of the first k units have, among the words from one place to another.
-pub fn recall(table: &[u32], from: usize, to: usize, starts: [u8; 16], k: usize, limit: u64) -> Scan
-    requires { ⌜ (to ≤ length (now table)) × (k ≤ 16) ⌝ }
-    ensures { λ r. ⌜ Recalled (now (table .entry)) starts k limit r ⌝ }
+// Looks for a nogood that holds for the limit and whose choices the starts of the units placed have, among the words from one place to another.
+// A choice is of a unit placed by the test of the unit itself: what the starts of other units are does not matter.
+pub fn recall(
+    table: &[u32],
+    from: usize,
+    to: usize,
+    starts: [u8; 16],
+    placed: u32,
+    limit: u64,
+) -> Scan
+    requires { ⌜ to ≤ length (now table) ⌝ }
+    ensures { λ r. ⌜ Recalled (now (table .entry)) starts (has placed) limit r ⌝ }
 {
     let mut i = from;
     while i < to {
-        let h = meets(table, starts, k, limit, i);
+        let h = meets(table, starts, placed, limit, i);
         if let Scan::Cut(b) = h {
             return Scan::Cut(b);
         }

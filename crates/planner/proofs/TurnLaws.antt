@@ -15,7 +15,7 @@ use Rattle.model.specs.Best.{Everywhere}
 use Rattle.model.specs.Answer.{Answer, optimal, infeasible, incumbent, unknown, Found, Correct}
 use Rattle.model.specs.Asks.{Follows, settles}
 use Rattle.search.specs.declared.Reply.{Reply}
-use Rattle.search.specs.Walk.{AllSettled}
+use Rattle.walk.specs.Walk.{AllSettled}
 use Rattle.search.specs.Ask.{answerOf}
 use Rattle.planner.specs.declared.Carry.{Carry}
 use Rattle.planner.specs.Carry.{PlanKnown, Knows, settledBy, Remembers, Replied, Keeps}

@@ -15,7 +15,7 @@ use Rattle.model.specs.Asks.{Leaves}
 use Rattle.nogood.specs.Stock.{Stock, Grown}
 use Rattle.state.specs.declared.Walked.the-variants.{Dead}
 use Rattle.search.specs.declared.Reply.{Reply}
-use Rattle.search.specs.Walk.{TableTrue, AllSettled}
+use Rattle.walk.specs.Walk.{TableTrue, AllSettled}
 use Rattle.search.specs.Ask.{answerOf}
 use Rattle.planner.specs.declared.Carry.{Carry}
 

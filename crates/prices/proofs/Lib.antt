@@ -1,2 +1,2 @@
 -- what the table, pushes and steps keep to
-mod RangeLaws
+pub mod RangeLaws

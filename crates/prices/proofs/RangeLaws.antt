@@ -8,7 +8,7 @@ use mathlib.Core.Logic.{_⊎_, inl, inr}
 use native.Mathlib.Nat.{le-trans, mul-le-mul-left, mul-le-mul-right, div-le-self}
 use native.Mathlib.Omega.{arith}
 use lib.Dec.{ltb}
-use lib.ListN.{getD, set, length-set}
+use lib.ListN.{length, getD, set, length-set}
 use lib.Seq.{getD-set-other}
 use mir.Syntax.{w64}
 use mir.Val.{Fits}
@@ -19,8 +19,8 @@ use Rattle.model.specs.Schedule.{inSpan}
 use Rattle.model.specs.Words.{problemOf}
 use Rattle.instance.specs.Filed.{Filed}
 use Rattle.overhaul.specs.Range.{lastStart}
-use Rattle.tables.specs.Tables.{PARTNERS, OFFS, MOST_PRICE, partnersIn, offIn, Prices, First, Priced}
-use Rattle.tables.proofs.TableLaws.{first-priced, prices-put}
+use Rattle.tables.specs.Tables.{PARTNERS, OFFS, HARD_WEEKS, TABLES, MOST_PRICE, partnersIn, offIn, Prices, First, Priced, Begins}
+use Rattle.tables.proofs.TableLaws.{first-priced, prices-put, begins-put, begins-priced}
 use Rattle.relaxation.specs.Relaxed.{WeekAt}
 use Rattle.prices.specs.Ranges.{LEVEL, MOST_PUSH, MOST_SQUARE, MOST_AIM, REACH, MOST_STEP, STEP_SCALE, MOST_CHANGE, PricedFile, Moved, OneOf}
 
@@ -150,3 +150,17 @@ span-before s d t h = rw (lt-leb s (t + 1) h)
 pub span-after : (s d t : ℕ) → s ≤ t + 1 → ltb (t + 1) (s + d) ≡ inSpan s d t
 unfolding inSpan
 span-after s d t h = rw (le-leb s (t + 1) h)
+
+-- ---- hard weeks noted behind all else
+
+-- as the table was
+pub hard-start : (xs : List ℕ) → length xs ≡ TABLES → Begins HARD_WEEKS xs xs
+hard-start xs e = record { long = e; same = λ k l. refl }
+
+-- one week more
+pub hard-next : (xs ys : List ℕ) (t v : ℕ) → Begins HARD_WEEKS xs ys → Begins HARD_WEEKS xs (set ys (HARD_WEEKS + t) v)
+hard-next xs ys t v h = begins-put HARD_WEEKS xs ys (HARD_WEEKS + t) v h (omega arith)
+
+-- so it has the prices, partners and OFF costs that it had
+pub hard-priced : (ws : List ℕ) (l : Layout) (xs ys : List ℕ) → Filed ws l → Begins HARD_WEEKS xs ys → Priced (problemOf ws) xs → Priced (problemOf ws) ys
+hard-priced ws l xs ys f h priced = begins-priced ws l HARD_WEEKS xs ys f h (omega arith) priced

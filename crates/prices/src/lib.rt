@@ -1,13 +1,18 @@
 // Prices for units that are not out, found from the file alone, in rounds: at the prices of a round each unit has a least start and each week a best
 // set of units out, and prices rise where units are out by their least starts alone, and fall where the weeks alone have them out. Any prices serve a
 // bound, these are advice. In the field this is the subgradient method with momentum. Weeks and units count from 0, starts from 1.
-// `wants` is what units and weeks want at prices, `momentum` has the pushes, `step` moves prices, and here are the rounds: start at `find_prices`.
+// `wants` is what units and weeks want at prices, `effort` what may be spent on a week, `momentum` has the pushes, `step` moves prices, and here are the
+// rounds: start at `find_prices`.
 use model::Layout;
-use momentum::LEVEL;
-use momentum::PLACES;
+pub use momentum::LEVEL;
+pub use momentum::PLACES;
+pub use momentum::magnitude;
+pub use momentum::push_at;
+pub use momentum::update_momentum;
 use step::Progress;
 use tables::TABLES;
-use wants::WANT_WORDS;
+pub use wants::LEAST_STARTS;
+pub use wants::WANT_WORDS;
 ghost use Prim.Native.Nat.{_<_};
 ghost use Rattle.sums.specs.Table.{AtMost};
 ghost use Rattle.model.specs.Words.{problemOf};
@@ -16,6 +21,7 @@ ghost use Rattle.memo.specs.Memo.{Right, Others};
 ghost use Rattle.tables.specs.Tables.{First, Priced};
 ghost use Rattle.prices.specs.Ranges.{NO_BOUND, MOST_PUSH, PricedFile, ProgressInRange, OneOf};
 
+mod effort;
 mod momentum;
 mod step;
 mod wants;
@@ -29,7 +35,7 @@ const PATIENCE: u32 = 6;
 // The first reach of steps, in 256ths.
 const REACH: u64 = 256;
 // Rounds end where steps reach less than this.
-const LEAST_REACH: u64 = 16;
+const LEAST_REACH: u64 = 8;
 
 // Runs a round: pushes, a step, and the bound at the new prices; no bound where units and weeks agree.
 fn run_round(
@@ -63,7 +69,6 @@ fn keep_or_restart(
     push: &mut [u32; PLACES],
     wants: &mut [u32; WANT_WORDS],
     best: &mut [u32; TABLES],
-    kept: &mut [u32; WANT_WORDS],
 ) -> Progress
     requires { ⌜ (root < NO_BOUND) × ProgressInRange s × AtMost MOST_PUSH (now push) ⌝ }
     ensures ranges { λ r. ⌜ ProgressInRange r × AtMost MOST_PUSH (now (push .exit)) ⌝ }
@@ -72,7 +77,7 @@ fn keep_or_restart(
 {
     if s.best < root {
         *best = *tables;
-        *kept = *wants;
+        wants::keep_wants(wants);
         return Progress {
             best: root,
             at: root,
@@ -90,7 +95,7 @@ fn keep_or_restart(
         };
     }
     *tables = *best;
-    *wants = *kept;
+    wants::restore_wants(wants);
     *push = [LEVEL; PLACES];
     Progress {
         best: s.best,
@@ -100,13 +105,14 @@ fn keep_or_restart(
     }
 }
 
-// The prices of the best of the rounds, from a table at whose prices the bound and what units and weeks want are these.
+// The prices of the best of the rounds, from a table at whose prices the bound and what units and weeks want are these; the wants have what the rounds
+// needed.
 fn ascend(
     words: &[u32],
     l: Layout,
     first: &[u32; TABLES],
     root: u64,
-    wanted: [u32; WANT_WORDS],
+    wants: &mut [u32; WANT_WORDS],
     memo: &mut [u32],
 ) -> [u32; TABLES]
     requires { ⌜ PricedFile (now words) l (now first) × (root < NO_BOUND) × Right (problemOf (now words)) (now memo) ⌝ }
@@ -117,8 +123,6 @@ fn ascend(
     let mut best = *first;
     let mut tables = *first;
     let mut push: [u32; PLACES] = [LEVEL; PLACES];
-    let mut kept = wanted;
-    let mut wants = wanted;
     let mut s = Progress {
         best: root,
         at: root,
@@ -127,19 +131,11 @@ fn ascend(
     };
     // Each time round, `s` has the bound at the prices of `best`, the highest so far, and that at the prices of `tables`, at which `wants` is wanted.
     for n in 0..most {
-        let root = run_round(words, l, s, &mut tables, &mut push, &mut wants, memo);
+        let root = run_round(words, l, s, &mut tables, &mut push, wants, memo);
         if NO_BOUND <= root {
             return best;
         }
-        s = keep_or_restart(
-            root,
-            s,
-            &mut tables,
-            &mut push,
-            &mut wants,
-            &mut best,
-            &mut kept,
-        );
+        s = keep_or_restart(root, s, &mut tables, &mut push, wants, &mut best);
         if s.reach < LEAST_REACH {
             return best;
         }
@@ -165,5 +161,7 @@ pub fn find_prices(
     if NO_BOUND <= root {
         return *first;
     }
-    ascend(words, l, first, root, wants, memo)
+    wants::keep_wants(&mut wants);
+    let best = ascend(words, l, first, root, &mut wants, memo);
+    effort::with_hard_weeks(best, &wants)
 }

@@ -1,6 +1,8 @@
 // What units and weeks want at the prices of a round: a unit the start that costs it least, a week the units out with which its value is least. It
-// stands in one table of words: the units that week t wants out at place t, and from LEAST_STARTS on the least start of each unit.
+// stands in one table of words: the units that week t wants out at place t, and from LEAST_STARTS on the least start of each unit; then the same again
+// as it was at the best prices; then what `effort` knows of all rounds.
 use crate::NO_BOUND;
+use crate::effort;
 use instance::Euro;
 use model::Layout;
 use model::NO_RUN;
@@ -14,9 +16,15 @@ ghost use Rattle.prices.specs.Ranges.{NO_BOUND, MOST_FIRST_COST, PricedF
 ghost use Rattle.prices.specs.Wanted.{outWanted, startWanted};
 
 // The words of the table.
-pub const WANT_WORDS: usize = 68;
+pub const WANT_WORDS: usize = 189;
 // Where the least starts begin.
-const LEAST_STARTS: usize = 52;
+pub const LEAST_STARTS: usize = 52;
+// Where what was wanted at the best prices begins.
+const KEPT_WANTS: usize = 68;
+// Where the hard weeks begin: 1 at the place of each.
+pub const HARD_WANTS: usize = 136;
+// Where the nodes used in all rounds stand.
+pub const NODES_USED: usize = 188;
 
 // A start of a unit, and what it costs, prices and OFF costs included.
 struct PricedStart {
@@ -40,6 +48,20 @@ pub fn wanted_start(wants: &[u32; WANT_WORDS], i: usize) -> u32
     ensures { λ r. ⌜ r ≡ startWanted (now (wants .entry)) i ⌝ }
 {
     wants[LEAST_STARTS + i]
+}
+
+// Keeps what is wanted now, since prices are the best so far.
+pub fn keep_wants(wants: &mut [u32; WANT_WORDS]) {
+    for k in 0..KEPT_WANTS {
+        wants[KEPT_WANTS + k] = wants[k];
+    }
+}
+
+// Brings back what was wanted at the best prices.
+pub fn restore_wants(wants: &mut [u32; WANT_WORDS]) {
+    for k in 0..KEPT_WANTS {
+        wants[k] = wants[KEPT_WANTS + k];
+    }
 }
 
 // ---- units
@@ -154,7 +176,8 @@ fn choose_starts(
 
 // ---- weeks
 
-// The value of all weeks, no bound where one has no run; the units that each wants out are written.
+// The value of all weeks, no bound where one has no run; the units that each wants out are written, and what
+// it needed.
 fn choose_weeks(
     words: &[u32],
     l: Layout,
@@ -170,10 +193,12 @@ fn choose_weeks(
     let mut sum = Euro(0);
     // Each time round, the weeks below t have runs, and `sum` is their value.
     for t in 0..weeks {
-        let choice = relaxation::best_choice(words, l, tables, t, 0, memo);
+        let effort = effort::effort_of(l, wants, t);
+        let choice = relaxation::best_choice(words, l, tables, t, 0, effort, memo);
         if NO_RUN <= choice.value.0 {
             return Euro(NO_BOUND);
         }
+        effort::note_work(wants, t, effort.sets, choice.sets, choice.nodes);
         wants[t] = choice.out;
         sum = sum.plus(choice.value);
     }

@@ -4,6 +4,7 @@ use Prim.Native.Nat.{ℕ, _+_, _*_, _≤_, _<_}
 use mathlib.Core.Path.{_≡_, subst}
 use mathlib.Core.Bool.{Bool, true, false}
 use mathlib.Core.List.{List}
+use mathlib.Core.Logic.{inl, inr}
 use native.Mathlib.Nat.{mul-le-mul-right, le-trans, le-refl}
 use native.Mathlib.Numerals.{add-one}
 use native.Mathlib.Omega.{arith}
@@ -19,7 +20,7 @@ use Rattle.model.specs.Words.{problemOf}
 use Rattle.instance.specs.Filed.{Filed}
 use Rattle.tables.specs.Tables.{MOST_PRICE, MOST_WEEK_PRICES, priceIn, Prices, Priced}
 use Rattle.tables.proofs.TableLaws.{price-most}
-use Rattle.relaxation.specs.Choosing.{pricesNotOut, PricesLeft, PricesLeftAtLeast}
+use Rattle.relaxation.specs.Choosing.{pricesNotOut, NoGain, PricesLeft, PricesLeftAtLeast}
 
 -- ---- one unit at a time
 
@@ -67,8 +68,12 @@ left-ended u t a n units table h l m = let e : n ≡ units = omega arith in subs
 -- ---- as a bound
 
 -- prices that do not pay, by the test that the code makes
-pub gain-none : (best left sum value : ℕ) → sum ≡ best + left → leb sum value ≡ true → best + left ≤ value
-gain-none best left sum value e h = omega (arith, leb-true sum value h)
+pub gain-none : (best left sum value : ℕ) → sum ≡ best + left → leb sum value ≡ true → NoGain best left value
+gain-none best left sum value e h = record { why = inr (omega (arith, leb-true sum value h)) }
+
+-- a best so far of 0
+pub gain-zero : (best left value : ℕ) → best ≡ 0 → true ≡ true → NoGain best left value
+gain-zero best left value e t = record { why = inl e }
 
 -- a place of the table of prices left
 left-small : (xs left : List ℕ) (t k n : ℕ) (a : NumSet) → Prices xs → n ≤ 16 → PricesLeft (priceIn xs) t a n left → k ≤ n → getD left k 0 ≤ MOST_WEEK_PRICES

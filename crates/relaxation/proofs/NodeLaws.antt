@@ -15,13 +15,16 @@ use Rattle.sums.proofs.LogicLaws.{true-false, not-so}
 use Rattle.model.specs.declared.Layout.{Layout}
 use Rattle.model.specs.Problem.{Problem}
 use Rattle.model.specs.Words.{problemOf}
+use Rattle.model.specs.Plan.{Compatible}
 use Rattle.model.specs.Commitment.{NO_RUN, fullLeast}
 use Rattle.instance.specs.Filed.{Filed}
 use Rattle.memo.specs.Memo.{Right}
 use Rattle.relaxation.specs.declared.WeekNode.{WeekNode}
 use Rattle.tables.specs.Tables.{MOST_PRICE, MOST_WEEK_PRICES, priceIn, partnersIn, Priced}
+use Rattle.states.specs.declared.WeekTask.{WeekTask}
+use Rattle.states.specs.Weeks.{OutKnown, WeekDue}
 use Rattle.relaxation.specs.Relaxed.{WeekAt}
-use Rattle.relaxation.specs.Choosing.{MOST_VALUE, pricesNotOut, Floor, Lowers, NeedlessUnits, CrewsLeft, NodeKnown, PricesLeft, PricesLeftAtLeast, Skipped, Child, WithUnit, Beginning, RootNode, Choosing}
+use Rattle.relaxation.specs.Choosing.{MOST_VALUE, pricesNotOut, Floor, Lowers, NoGain, Needless, NeedlessUnits, CrewsLeft, NodeKnown, PricesLeft, PricesLeftAtLeast, Skipped, Child, WithUnit, Beginning, RootNode, Choosing}
 use Rattle.relaxation.proofs.OutLaws.{Joins, joins-it, joins-old, joins-other, not-out-less, not-out-joined, headcount-joined, needless-more}
 use Rattle.relaxation.proofs.LeftLaws.{not-out-small, left-all, left-all-small, spare-start}
 use Rattle.relaxation.proofs.ShutLaws.{more-of, shut-joined}
@@ -35,7 +38,7 @@ module _ (left : List ℕ) (i low : ℕ) (y : WeekNode) (b : Bool) (is : b ≡ h
   over-shut e = (λ z. record { why = inl (sym is ∙ e) }, λ z. true-false z)
 
   -- or the prices up to it do not pay, by the result of that test
-  pub over-dear : (r : Bool) → b ≡ false → (r ≡ true → low + getD left (i + 1) 0 ≤ y .value .0)
+  pub over-dear : (r : Bool) → b ≡ false → (r ≡ true → NoGain low (getD left (i + 1) 0) (y .value .0))
       → (r ≡ true → Skipped left i y low) × (r ≡ false → has (y .shut) i ≡ false)
   over-dear r e h = (λ z. record { why = inr (h z) }, λ z. sym is ∙ e)
 
@@ -210,17 +213,21 @@ module _ (ws xs : List ℕ) (y : WeekNode) (known : NodeKnown (problemOf ws) (pr
 
     -- the prices left do not pay
     pub choose-cut : (left : List ℕ) → PricesLeftAtLeast (priceIn xs) (y .week) (has (y .out)) (l .units) left → (low : ℕ) (b : Bool)
-        → (b ≡ true → low + getD left k 0 ≤ y .value .0) → b ≡ true → Floor (problemOf ws) (priceIn xs) (y .week) (has (y .out)) k low
-    choose-cut left spare low b h e =
-        floor-cut (problemOf ws) (priceIn xs) (y .week) (has (y .out)) k low (getD left k 0) deep-in (spare .enough k deep)
-        (omega (arith, worth, h e))
+        → (b ≡ true → NoGain low (getD left k 0) (y .value .0)) → b ≡ true → Floor (problemOf ws) (priceIn xs) (y .week) (has (y .out)) k low
+    choose-cut left spare low b h e = by (h e .why)
+      where
+        by : (low ≡ 0) ⊎ (low + getD left k 0 ≤ y .value .0) → Floor (problemOf ws) (priceIn xs) (y .week) (has (y .out)) k low
+        by (inl z) = record { below = λ x r c reach s. omega (arith, z) }
+        by (inr c) =
+            floor-cut (problemOf ws) (priceIn xs) (y .week) (has (y .out)) k low (getD left k 0) deep-in (spare .enough k deep)
+            (omega (arith, worth, c))
 
   -- a unit passed over
   pub choose-over : (left : List ℕ) (l : Layout) (i low : ℕ) → Filed ws l → i < l .units → PricesLeftAtLeast (priceIn xs) (y .week) (has (y .out)) (l .units) left
       → (b : Bool) → (b ≡ true → Skipped left i y low) → b ≡ true → Lowers (problemOf ws) (priceIn xs) (y .week) (has (y .out)) i low low
   choose-over left l i low f h spare b over e = record { less = omega arith; next = by (over e .why) }
     where
-      by : (has (y .shut) i ≡ true) ⊎ (low + getD left (i + 1) 0 ≤ y .value .0) → Floor (problemOf ws) (priceIn xs) (y .week) (has (y .out)) i low
+      by : (has (y .shut) i ≡ true) ⊎ NoGain low (getD left (i + 1) 0) (y .value .0) → Floor (problemOf ws) (priceIn xs) (y .week) (has (y .out)) i low
           → Floor (problemOf ws) (priceIn xs) (y .week) (has (y .out)) (i + 1) low
       by (inl s) floor =
           let m : i < problemOf ws .units = omega (arith, f .units-are) in
@@ -242,3 +249,30 @@ choose-next p u t i low r o floor lowers = lowers .next floor
 -- all units tried
 pub choose-ended : (p : Problem) (u : ℕ → ℕ → ℕ) (t i k low : ℕ) (o : NumSet) → Floor p u t o i low → i ≤ k → k ≤ i → Floor p u t o k low
 choose-ended p u t i k low o floor l m = let e : i ≡ k = omega arith in subst (λ (n : ℕ). Floor p u t o n low) e floor
+
+-- ---- the same week by three states
+
+-- the units that need no try, as the search over states knows them
+out-known : (p : Problem) (u : ℕ → ℕ → ℕ) (y : WeekNode) → NodeKnown p u y → OutKnown p u (y .week) (has (y .out)) (y .shut) (y .room)
+out-known p u y k = record {
+  own = k .shut .own;
+  free = λ out c sub i l s o. by out c sub i l o (k .shut .needless i l s);
+  crews = k .room .most;
+}
+  where
+    by : (out : NumSet) → Compatible p out → ((i : ℕ) → i < p .units → has (y .out) i ≡ true → out i ≡ true) → (i : ℕ) → i < p .units
+        → out i ≡ true → Needless p u (y .week) (has (y .out)) i → (has (y .out) i ≡ true) ⊎ (u (y .week) i ≡ 0)
+    by out c sub i l o (inl e) = inl e
+    by out c sub i l o (inr (inl e)) = inr e
+    by out c sub i l o (inr (inr b)) = absurd (b .never out c sub o)
+
+pub states-due : (ws xs : List ℕ) (l : Layout) (y : WeekNode) (w : WeekTask) → WeekAt ws l xs (y .week)
+    → NodeKnown (problemOf ws) (priceIn xs) y → w .week ≡ y .week → w .out ≡ y .out → w .shut ≡ y .shut → w .room ≡ y .room
+    → w .most .0 ≡ y .value .0 → WeekDue ws l xs w
+states-due ws xs l y w at known e f g h m = record {
+  filed = at .filed;
+  week = rw e (at .week);
+  priced = at .priced;
+  known = rw (e, f, g, h) (out-known (problemOf ws) (priceIn xs) y known);
+  small = omega (arith, m, known .small);
+}

@@ -18,7 +18,7 @@ use Rattle.model.specs.Problem.{Problem}
 use Rattle.model.specs.Rules.{headcount}
 use Rattle.model.specs.Pairs.{apart}
 use Rattle.model.specs.Plan.{Compatible}
-use Rattle.blame.proofs.PairLaws.{PairOf, apart-pair}
+use Rattle.blame.proofs.PairLaws.{compatible-clear}
 use Rattle.relaxation.specs.Choosing.{pricesNotOut, Barred, Needless}
 
 -- ---- sets and sums
@@ -107,17 +107,7 @@ module _ (p : Problem) where
 
   -- not two that form an excluded pair
   pub apart-barred : (o : NumSet) (i j : ℕ) → i < p .units → o i ≡ true → apart p i j ≡ true → Barred p o j
-  apart-barred o i j l e pair = record { never = λ x c all y. by x c (all i l e) y (apart-pair p i j pair) }
-    where
-      both : (x : NumSet) (n : ℕ) → Compatible p x → n < p .pairs → x (p .pairA n) ≡ true → x (p .pairB n) ≡ true → ⊥
-      both x n c b f g = true-false (sym g ∙ c .apart n b f)
-
-      by : (x : NumSet) → Compatible p x → x i ≡ true → x j ≡ true → PairOf p i j → ⊥
-      by x c f g q =
-          ⊎-elim
-          (λ (z : (p .pairA (q .at) ≡ i) × (p .pairB (q .at) ≡ j)). both x (q .at) c (q .below) (ap x (z .0) ∙ f) (ap x (z .1) ∙ g))
-          (λ (z : (p .pairA (q .at) ≡ j) × (p .pairB (q .at) ≡ i)). both x (q .at) c (q .below) (ap x (z .0) ∙ g) (ap x (z .1) ∙ f))
-          (q .ends)
+  apart-barred o i j l e pair = record { never = λ x c all y. true-false (sym pair ∙ compatible-clear p x i j c (all i l e) y) }
 
   -- nor with more units out
   barred-more : (o q : NumSet) (i : ℕ) → ((k : ℕ) → o k ≡ true → q k ≡ true) → Barred p o i → Barred p q i

@@ -24,9 +24,10 @@ use Rattle.blame.proofs.BoundLaws.{week-plain}
 use Rattle.tables.specs.Tables.{MOST_PRICE, MOST_WEEK_PRICES, priceIn}
 use Rattle.relaxation.specs.Relaxed.{WeekAt, Value, valueKey, MemoValues, MemoTrue}
 use Rattle.relaxation.specs.declared.WeekNode.{WeekNode}
-use Rattle.relaxation.specs.Choosing.{pricesNotOut, Floor, RootNode}
+use Rattle.relaxation.specs.Choosing.{pricesNotOut, Floor, RootNode, Choosing}
 use Rattle.relaxation.proofs.LeftLaws.{not-out-small}
 use Rattle.relaxation.proofs.FloorLaws.{floor-week}
+use Rattle.relaxation.proofs.NodeLaws.{choose-full}
 
 -- ---- a value
 
@@ -52,14 +53,13 @@ run-cheap ws l t a f h = by (cheapestRun (problemOf ws) t a)
     by nothing b = absurd (omega arith)
     by (picked r) b = run-small ws l t f h r
 
--- a lower bound for all sets is one too, where there is a run; prices cannot bring it to what stands for none
-pub value-chosen : (ws xs : List ℕ) (l : Layout) (t out cost v : ℕ) (y : WeekNode) → WeekAt ws l xs t → cost ≡ fullLeast (problemOf ws) t (has out)
+-- a lower bound of the week that is no more than the set itself, where there is a run; prices cannot bring it to what stands for none
+pub value-least : (ws xs : List ℕ) (l : Layout) (t out cost v : ℕ) (y : WeekNode) → WeekAt ws l xs t → cost ≡ fullLeast (problemOf ws) t (has out)
     → cost < NO_RUN → RootNode (problemOf ws) (priceIn xs) t out cost y → v ≤ y .value .0
-    → Floor (problemOf ws) (priceIn xs) (y .week) (has (y .out)) (l .units) v → Value (problemOf ws) (priceIn xs) t (has out) v
-value-chosen ws xs l t out cost v y at e less begun low floor =
+    → WeekLeast (problemOf ws) (priceIn xs) (y .week) (has (y .out)) v → Value (problemOf ws) (priceIn xs) t (has out) v
+value-least ws xs l t out cost v y at e less begun low least =
     record {
-      least = subst (λ (o : ℕ). WeekLeast p u t (has o) v) (begun .same)
-          (floor-week p u t (has (y .out)) (l .units) v (omega (arith, f .units-are)) (rw (begun .week) at floor));
+      least = subst (λ (o : ℕ). WeekLeast p u t (has o) v) (begun .same) (rw (begun .week) at least);
       small = omega (arith, cheap, few, begun .value);
       none = λ x. absurd (omega (arith, cheap, few, begun .value));
       serves = λ x. omega arith;
@@ -81,6 +81,18 @@ value-chosen ws xs l t out cost v y at e less begun low floor =
     few =
         let most : p .units ≤ 16 = omega (arith, f .units-are, f .units-most) in
         omega (arith, not-out-small xs t (has out) (p .units) (at .priced .prices), mul-le-mul-right MOST_PRICE most)
+
+-- as the choice of sets ends with
+pub least-chosen : (ws xs : List ℕ) (l : Layout) (t v : ℕ) (o : NumSet) → Filed ws l → Floor (problemOf ws) (priceIn xs) t o (l .units) v
+    → WeekLeast (problemOf ws) (priceIn xs) t o v
+least-chosen ws xs l t v o f floor = floor-week (problemOf ws) (priceIn xs) t o (l .units) v (omega (arith, f .units-are)) floor
+
+-- as where no crew is left
+pub least-full : (ws xs left memo : List ℕ) (l : Layout) (y : WeekNode) (v : ℕ) → Choosing ws l xs left y memo → y .room ≡ 0 → v ≡ y .value .0
+    → WeekLeast (problemOf ws) (priceIn xs) (y .week) (has (y .out)) v
+least-full ws xs left memo l y v c z e =
+    least-chosen ws xs l (y .week) v (has (y .out)) (c .at .filed)
+    (choose-full ws xs y (c .known) l (l .units) (c .at .filed) (omega arith) v (omega arith) z)
 
 -- ---- a memo of values
 

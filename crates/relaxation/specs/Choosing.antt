@@ -76,9 +76,13 @@ pub record PricesLeftAtLeast (u : ℕ → ℕ → ℕ) (t : ℕ) (a : NumSet) (n
   pub enough : (k : ℕ) → k ≤ n → pricesNotOut u t a k ≤ getD left k 0
   pub small : (k : ℕ) → k ≤ n → getD left k 0 ≤ MOST_WEEK_PRICES
 
+-- prices that come to so much cannot bring a value below the best so far: it is 0, or they do not pay
+pub record NoGain (low left value : ℕ) : Type 0 where
+  pub why : (low ≡ 0) ⊎ (low + left ≤ value)
+
 -- unit i, as the highest of further units, need not be tried against the best so far: it is shut, or the prices up to it cannot pay
 pub record Skipped (left : List ℕ) (i : ℕ) (y : WeekNode) (low : ℕ) : Type 0 where
-  pub why : (has (y .shut) i ≡ true) ⊎ (low + getD left (i + 1) 0 ≤ y .value .0)
+  pub why : (has (y .shut) i ≡ true) ⊎ NoGain low (getD left (i + 1) 0) (y .value .0)
 
 -- z is y with unit i out as well, which has this price and these partners; the cheapest run then costs this much
 pub record Child (price partners i : ℕ) (y : WeekNode) (out cost : ℕ) (z : WeekNode) : Type 0 where

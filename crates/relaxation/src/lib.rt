@@ -1,33 +1,43 @@
 // A week by itself, at prices for units that are not out: the least that the cheapest run and these prices come to, over all sets of units that may
 // be out together and have certain units. The choice of further units goes depth first, from the highest of them down, and is cut where the
-// prices left cannot pay. Weeks and units count from 0.
+// prices left cannot pay. Where it has looked at too many sets it is given up, and the search over three states for each unit gives a lower bound.
+// Weeks and units count from 0. `start` has what is known before the choice, `asked`
+// what walks ask for.
 use instance::Euro;
-use memo::OTHERS;
 use memo::Stored;
 use model::Layout;
 use model::NO_RUN;
 use sets::SETS;
+use states::WeekTask;
 use tables::TABLES;
 ghost use mathlib.Core.Path.{_≡_};
-ghost use mathlib.Core.Bool.{true, false, _||_};
-ghost use Prim.Native.Nat.{ℕ, _+_, _<_, _≤_};
-ghost use lib.Dec.{eqb};
+ghost use mathlib.Core.Bool.{true, false};
+ghost use Prim.Native.Nat.{_+_, _<_, _≤_};
 ghost use lib.ListN.{getD};
-ghost use Rattle.sums.specs.Sum.{countsOne};
-ghost use Rattle.sums.specs.NumSet.{has, onlyIn, complement};
+ghost use Rattle.sums.specs.NumSet.{has};
 ghost use Rattle.model.specs.Words.{problemOf};
-ghost use Rattle.sets.specs.Sets.{SETS};
 ghost use Rattle.model.specs.Commitment.{NO_RUN, fullLeast};
-ghost use Rattle.instance.specs.Filed.{Filed};
 ghost use Rattle.tables.specs.Tables.{MOST_WEEK_PRICES, priceIn, partnersIn, Prices};
+ghost use Rattle.blame.specs.Priced.{WeekLeast};
 ghost use Rattle.memo.specs.Memo.{Right, Others};
-ghost use Rattle.relaxation.specs.Relaxed.{WeekAt, Value, valueKey, MemoTrue};
-ghost use Rattle.relaxation.specs.Choosing.{MOST_VALUE, Floor, Lowers, NeedlessUnits, PricesLeft, CrewsLeft, NodeKnown, Skipped, Child, WithUnit, Beginning, RootNode, Choosing};
+ghost use Rattle.relaxation.specs.Relaxed.{WeekAt, Value, MemoTrue};
+ghost use Rattle.relaxation.specs.Choosing.{MOST_VALUE, Floor, Lowers, NoGain, NodeKnown, Skipped, Child, WithUnit, Beginning, RootNode, Choosing};
 
-// What a week is worth, and a set of units out that is worth so much.
+mod asked;
+mod start;
+
+// How much may be spent on a week: how many sets may be looked at, and how many nodes of the search over three states.
+pub struct Effort {
+    pub sets: u32,
+    pub nodes: u64,
+}
+
+// What a week is worth, a set of units out that is worth so much, the sets that may still be looked at, and the nodes that were needed.
 pub struct WeekChoice {
     pub value: Euro,
     pub out: u32,
+    pub sets: u32,
+    pub nodes: u64,
 }
 
 // A set of units out in a week, from which the choice of further ones goes on: units that need no try, how many more crews allow, what the prices of
@@ -41,120 +51,46 @@ struct WeekNode {
     value: Euro,
 }
 
-// ---- before the choice
-
-// A sum of prices, with that of unit i in week t unless it is out.
-fn price_added(tables: &[u32; TABLES], t: usize, out: u32, i: usize, sum: u64) -> u64
-    requires { ⌜ (t < 52) × (i < 16) × (sum ≤ MOST_WEEK_PRICES) × Prices (now tables) ⌝ }
-    ensures { λ r. ⌜ r ≡ sum + onlyIn (complement (has out)) (priceIn (now (tables .entry)) t) i ⌝ }
-{
-    if sets::has(out, i) {
-        return sum;
-    }
-    let own = tables::price(tables, t, i);
-    sum + own.0
-}
-
-// At place k what the prices of the units below k come to, of those not out.
-fn prices_left(tables: &[u32; TABLES], units: usize, t: usize, out: u32) -> [u64; 17]
-    requires { ⌜ (t < 52) × (units ≤ 16) × Prices (now tables) ⌝ }
-    ensures { λ r. ⌜ PricesLeft (priceIn (now (tables .entry))) t (has out) units r ⌝ }
-{
-    let mut table: [u64; 17] = [0; 17];
-    for i in 0..units {
-        table[i + 1] = price_added(tables, t, out, i, table[i]);
-    }
-    table
-}
-
-// One more crew is taken where unit i is out.
-fn room_after(out: u32, i: usize, room: usize) -> usize
-    requires { ⌜ i < 32 ⌝ }
-    ensures { λ r. ⌜ (room ≤ r + onlyIn (has out) countsOne i) ⌝ }
-{
-    if sets::has(out, i) {
-        if 0 < room {
-            return room - 1;
-        }
-    }
-    room
-}
-
-// How many more units the crews allow out.
-fn room_left(words: &[u32], l: Layout, out: u32) -> usize
-    requires { ⌜ Filed (now words) l ⌝ }
-    ensures { λ r. ⌜ CrewsLeft (problemOf (now (words .entry))) (has out) r ⌝ }
-{
-    let units = l.units;
-    let mut room = instance::crews(words, l);
-    for i in 0..units {
-        room = room_after(out, i, room);
-    }
-    room
-}
-
-// Units that need no try, with unit i and those that may not be out with it.
-fn shut_more(shut: u32, i: usize, partners: u32) -> u32
-    requires { ⌜ i < 32 ⌝ }
-    ensures { λ r. ⌜ ((k : ℕ) → has r k ≡ ((has shut k || eqb k i) || has partners k)) ⌝ }
-{
-    sets::union(sets::with(shut, i), partners)
-}
-
-// What unit i adds to the units that need no try: itself and its partners where it is out, itself where its price is 0.
-fn shut_after(
-    words: &[u32],
-    l: Layout,
-    tables: &[u32; TABLES],
-    t: usize,
-    out: u32,
-    i: usize,
-    shut: u32,
-) -> u32
-    requires { ⌜ WeekAt (now words) l (now tables) t × (i < l .units) × NeedlessUnits (problemOf (now words)) (priceIn (now tables)) t (has out) i shut ⌝ }
-    ensures { λ r. ⌜ NeedlessUnits (problemOf (now (words .entry))) (priceIn (now (tables .entry))) t (has out) (i + 1) r ⌝ }
-{
-    if sets::has(out, i) {
-        return shut_more(shut, i, tables::partners(tables, i));
-    }
-    let own = tables::price(tables, t, i);
-    if own.0 == 0 {
-        return sets::with(shut, i);
-    }
-    shut
-}
-
-// The units that need no try with these out.
-fn shut_units(words: &[u32], l: Layout, tables: &[u32; TABLES], t: usize, out: u32) -> u32
-    requires { ⌜ WeekAt (now words) l (now tables) t ⌝ }
-    ensures { λ r. ⌜ NeedlessUnits (problemOf (now (words .entry))) (priceIn (now (tables .entry))) t (has out) (problemOf (now (words .entry)) .units) r ⌝ }
-{
-    let units = l.units;
-    let mut shut = 0;
-    for i in 0..units {
-        shut = shut_after(words, l, tables, t, out, i, shut);
-    }
-    shut
-}
+// The sets that are looked at before a choice is given up.
+pub const MOST_SETS: u32 = 200;
 
 // ---- the choice
 
-// The better of two: the smaller value, the first of equals.
+// A choice of sets, for which no nodes are needed.
+fn week_choice(value: Euro, out: u32, sets: u32) -> WeekChoice
+    ensures { λ r. ⌜ r .value .0 ≡ value .0 ⌝ }
+{
+    WeekChoice {
+        value,
+        out,
+        sets,
+        nodes: 0,
+    }
+}
+
+// The better of two: the smaller value, the first of equals, with a set less to look at. Where no set is left the choice is given up: a week is worth 0
+// at least.
 fn better(best: WeekChoice, y: WeekNode) -> WeekChoice
     ensures { λ r. ⌜ (r .value .0 ≤ best .value .0) × (r .value .0 ≤ y .value .0) ⌝ }
 {
-    let value = y.value;
-    if value.0 < best.value.0 {
-        return WeekChoice { value, out: y.out };
+    if best.sets == 0 {
+        return week_choice(Euro(0), best.out, 0);
     }
-    best
+    let sets = best.sets - 1;
+    if y.value.0 < best.value.0 {
+        return week_choice(y.value, y.out, sets);
+    }
+    week_choice(best.value, best.out, sets)
 }
 
-// Whether prices that come to so much cannot bring a value below the best so far.
+// Whether prices that come to so much cannot bring a value below the best so far, which is never below 0.
 fn no_gain(best: Euro, left: u64, value: Euro) -> bool
     requires { ⌜ (best .0 ≤ MOST_VALUE) × (left ≤ MOST_WEEK_PRICES) ⌝ }
-    ensures { λ r. ⌜ (r ≡ true → best .0 + left ≤ value .0) ⌝ }
+    ensures { λ r. ⌜ (r ≡ true → NoGain (best .0) left (value .0)) ⌝ }
 {
+    if best.0 == 0 {
+        return true;
+    }
     best.plus(Euro(left)).0 <= value.0
 }
 
@@ -179,7 +115,7 @@ fn child(tables: &[u32; TABLES], i: usize, y: WeekNode, out: u32, cost: Euro) ->
     let week = y.week;
     let own = tables::price(tables, week, i);
     let rest = Euro(y.rest.0 - own.0);
-    let shut = shut_more(y.shut, i, tables::partners(tables, i));
+    let shut = start::shut_more(y.shut, i, tables::partners(tables, i));
     WeekNode {
         week,
         out,
@@ -276,8 +212,8 @@ fn root(
 {
     let units = l.units;
     let rest = Euro(left[units]);
-    let shut = shut_units(words, l, tables, t, out);
-    let room = room_left(words, l, out);
+    let shut = start::shut_units(words, l, tables, t, out);
+    let room = start::room_left(words, l, out);
     WeekNode {
         week: t,
         out,
@@ -288,23 +224,82 @@ fn root(
     }
 }
 
-// The best choice with the units of y and any others.
+// What a week is worth with the units of y out, and others perhaps, by the choice of sets; 0 where it was given up.
+fn choose_by_sets(
+    words: &[u32],
+    l: Layout,
+    tables: &[u32; TABLES],
+    left: &[u64; 17],
+    y: WeekNode,
+    sets: u32,
+    memo: &mut [u32],
+) -> WeekChoice
+    requires { ⌜ Choosing (now words) l (now tables) (now left) y (now memo) ⌝ }
+    ensures answer { λ r. ⌜ WeekLeast (problemOf (now (words .entry))) (priceIn (now (tables .entry))) (y .week) (has (y .out)) (r .value .0)
+        × (r .value .0 ≤ y .value .0) ⌝ }
+    ensures right { λ r. ⌜ Right (problemOf (now (words .entry))) (now (memo .exit)) × Others (now (memo .entry)) (now (memo .exit)) ⌝ }
+{
+    let own = week_choice(y.value, y.out, sets);
+    choose(words, l, tables, left, l.units, y, own, memo)
+}
+
+// What a week is worth at least with the units of y out, and others perhaps, by three states for each unit. The value of y itself is what the search
+// has to get below, so that no more comes of it.
+fn choose_by_states(
+    words: &[u32],
+    l: Layout,
+    tables: &[u32; TABLES],
+    y: WeekNode,
+    nodes: u64,
+) -> WeekChoice
+    requires { ⌜ WeekAt (now words) l (now tables) (y .week) × NodeKnown (problemOf (now words)) (priceIn (now tables)) y ⌝ }
+    ensures { λ r. ⌜ WeekLeast (problemOf (now (words .entry))) (priceIn (now (tables .entry))) (y .week) (has (y .out)) (r .value .0)
+        × (r .value .0 ≤ y .value .0) ⌝ }
+{
+    let most = y.value;
+    let w = WeekTask {
+        week: y.week,
+        out: y.out,
+        shut: y.shut,
+        room: y.room,
+        most,
+        fuel: nodes,
+    };
+    let found = states::week_least(words, l, tables, w);
+    let value = found.value;
+    let spent = words::saturating_sub(nodes, found.fuel);
+    WeekChoice {
+        value,
+        out: found.out,
+        sets: 0,
+        nodes: spent,
+    }
+}
+
+// What a week is worth at least with the units of y out, and others perhaps: just these where no crew is left, else by sets, and where that is given
+// up by states.
 fn choose_any(
     words: &[u32],
     l: Layout,
     tables: &[u32; TABLES],
     left: &[u64; 17],
     y: WeekNode,
+    effort: Effort,
     memo: &mut [u32],
 ) -> WeekChoice
     requires { ⌜ Choosing (now words) l (now tables) (now left) y (now memo) ⌝ }
-    ensures answer { λ r. ⌜ Floor (problemOf (now (words .entry))) (priceIn (now (tables .entry))) (y .week) (has (y .out)) (l .units) (r .value .0)
+    ensures answer { λ r. ⌜ WeekLeast (problemOf (now (words .entry))) (priceIn (now (tables .entry))) (y .week) (has (y .out)) (r .value .0)
         × (r .value .0 ≤ y .value .0) ⌝ }
     ensures right { λ r. ⌜ Right (problemOf (now (words .entry))) (now (memo .exit)) × Others (now (memo .entry)) (now (memo .exit)) ⌝ }
 {
-    let value = y.value;
-    let own = WeekChoice { value, out: y.out };
-    choose(words, l, tables, left, l.units, y, own, memo)
+    if y.room == 0 {
+        return week_choice(y.value, y.out, effort.sets);
+    }
+    let c = choose_by_sets(words, l, tables, left, y, effort.sets, memo);
+    if 0 < c.value.0 {
+        return c;
+    }
+    choose_by_states(words, l, tables, y, effort.nodes)
 }
 
 // What week t is worth with these units out, and others perhaps, where their cheapest run costs so much.
@@ -315,6 +310,7 @@ fn choice_from(
     t: usize,
     out: u32,
     cost: Euro,
+    effort: Effort,
     memo: &mut [u32],
 ) -> WeekChoice
     requires { ⌜ WeekAt (now words) l (now tables) t × Right (problemOf (now words)) (now memo) × (cost .0 ≡ fullLeast (problemOf (now words)) t (has out))
@@ -322,9 +318,9 @@ fn choice_from(
     ensures answer { λ r. ⌜ Value (problemOf (now (words .entry))) (priceIn (now (tables .entry))) t (has out) (r .value .0) ⌝ }
     ensures right { λ r. ⌜ Right (problemOf (now (words .entry))) (now (memo .exit)) × Others (now (memo .entry)) (now (memo .exit)) ⌝ }
 {
-    let left = prices_left(tables, l.units, t, out);
+    let left = start::prices_left(tables, l.units, t, out);
     let y = root(words, l, tables, &left, t, out, cost);
-    choose_any(words, l, tables, &left, y, memo)
+    choose_any(words, l, tables, &left, y, effort, memo)
 }
 
 // What week t is worth with these units out, and others perhaps, computed from the least costs alone. The set is advice.
@@ -334,6 +330,7 @@ pub fn best_choice(
     tables: &[u32; TABLES],
     t: usize,
     out: u32,
+    effort: Effort,
     memo: &mut [u32],
 ) -> WeekChoice
     requires { ⌜ WeekAt (now words) l (now tables) t × Right (problemOf (now words)) (now memo) ⌝ }
@@ -342,20 +339,34 @@ pub fn best_choice(
 {
     let cost = memo::full_least(words, l, t, out, memo);
     if NO_RUN <= cost.0 {
-        return WeekChoice { value: cost, out };
+        return WeekChoice {
+            value: cost,
+            out,
+            sets: effort.sets,
+            nodes: 0,
+        };
     }
-    choice_from(words, l, tables, t, out, cost, memo)
+    choice_from(words, l, tables, t, out, cost, effort, memo)
 }
 
 // ---- values kept
 
-// The key of what week t is worth with these units out.
-fn value_key(t: usize, out: u32) -> u32
-    requires { ⌜ (t < 52) × (out < SETS) ⌝ }
-    ensures { λ r. ⌜ r ≡ valueKey t out ⌝ }
+// What week t is worth with these units out, and others perhaps, computed for a walk.
+fn computed_value(
+    words: &[u32],
+    l: Layout,
+    tables: &[u32; TABLES],
+    t: usize,
+    out: u32,
+    memo: &mut [u32],
+) -> Euro
+    requires { ⌜ WeekAt (now words) l (now tables) t × Right (problemOf (now words)) (now memo) ⌝ }
+    ensures answer { λ r. ⌜ Value (problemOf (now (words .entry))) (priceIn (now (tables .entry))) t (has out) (r .0) ⌝ }
+    ensures right { λ r. ⌜ Right (problemOf (now (words .entry))) (now (memo .exit)) × Others (now (memo .entry)) (now (memo .exit)) ⌝ }
 {
-    let week = t as u32;
-    week * SETS + out + 1 + OTHERS
+    let effort = asked::walk_effort(tables, t, out);
+    let c = best_choice(words, l, tables, t, out, effort, memo);
+    c.value
 }
 
 // What week t is worth with these units out, and others perhaps: from the memo, or computed and kept there (D75).
@@ -372,15 +383,14 @@ pub fn week_value(
     ensures recalls { λ r. ⌜ MemoTrue (problemOf (now (words .entry))) (priceIn (now (tables .entry))) (now (memo .exit)) ⌝ }
 {
     if SETS <= out {
-        let c = best_choice(words, l, tables, t, out, memo);
-        return c.value;
+        return computed_value(words, l, tables, t, out, memo);
     }
-    let key = value_key(t, out);
+    let key = asked::value_key(t, out);
     let found = memo::lookup(memo, key);
     if let Stored::Word(word) = found {
         return Euro(word as u64);
     }
-    let c = best_choice(words, l, tables, t, out, memo);
-    memo::keep(memo, key, c.value.0 as u32);
-    c.value
+    let value = computed_value(words, l, tables, t, out, memo);
+    memo::keep(memo, key, value.0 as u32);
+    value
 }

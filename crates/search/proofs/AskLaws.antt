@@ -39,11 +39,16 @@ use Rattle.state.specs.declared.Step.{Step}
 use Rattle.state.specs.declared.Walked.{Walked}
 use Rattle.state.specs.declared.Walked.the-variants.{Dead, Spent}
 use Rattle.state.specs.State.{deadAt, withTable, EndNoted, WalkStart}
+use Rattle.blame.specs.Free.{NoSchedule}
+use Rattle.farkas.specs.declared.Findings.{Findings}
+use Rattle.farkas.specs.Sums.{ShowsNone}
+use Rattle.search.specs.declared.Ask.{Ask}
 use Rattle.search.specs.declared.Reply.{Reply}
-use Rattle.search.specs.declared.walk.Visit.{Visit}
-use Rattle.search.specs.Walk.{Incumbent, TableTrue, PlaceDue, PlaceDone, WalkEnds, AllSettled, AtRoot, WalkDue, Closes, Finished}
-use Rattle.search.specs.Ask.{answerFor, answerIn, ReplyOfDue, ReplyOf, AskDue, Asked}
-use Rattle.search.proofs.StateLaws.{later-same}
+use Rattle.walk.specs.declared.Visit.{Visit}
+use Rattle.walk.specs.Walk.{Incumbent, TableTrue, PlaceDue, PlaceDone, WalkEnds, AllSettled, AtRoot, WalkDue, Closes, Finished}
+use Rattle.search.specs.Ask.{answerFor, answerIn, ReplyOfDue, ReplyOf, AskDue, AskSearched, Asked}
+use Rattle.search.specs.Walks.{SearchDue, SearchDone}
+use Rattle.walk.proofs.StateLaws.{later-same}
 use Rattle.search.proofs.ReplyLaws.{answer-correct, never-spent}
 
 nobody-below : {i : ℕ} {A : Type 0} → i < 0 → A
@@ -69,15 +74,27 @@ startless-none p fair e s sound =
 blame-nobody : (p : Problem) (starts : ℕ → ℕ) (limit b : ℕ) → Blames p (has 0) starts limit b → AllSettled p limit
 blame-nobody p starts limit b h = record { costs = λ s sound. h .closed .costs s sound (λ i l e. true-false (sym (h .within i e) ∙ zero-has i)) }
 
--- a unit has no permitted start
-pub finished-startless : (ws : List ℕ) (l : Layout) (us w memo : List ℕ) (st : State) (some : Bool) (step : Step) → WalkDue ws l us st w memo
-    → some ≡ someStartless (problemOf ws) → some ≡ true → step ≡ deadAt st 0 → Finished (problemOf ws) w w st step
-finished-startless ws l us w memo st some step d e so is = subst (Finished (problemOf ws) w w st) (sym is) (record {
+-- so the ask is settled before a start is tried
+finished-none : (ws : List ℕ) (w : List ℕ) (st : State) (step : Step) → NoSchedule (problemOf ws) → step ≡ deadAt st 0 → Finished (problemOf ws) w w st step
+finished-none ws w st step none is = subst (Finished (problemOf ws) w w st) (sym is) (record {
   later = later-same (problemOf ws) w st;
-  closes = record {
-    costs = λ s sound. absurd (startless-none (problemOf ws) (fair ws (d .walking .filed .passed)) (sym e ∙ so) s sound);
-  };
+  closes = record { costs = λ s sound. absurd (none .never s sound) };
 })
+
+-- a unit has no permitted start
+pub finished-startless : (ws : List ℕ) (l : Layout) (us w memo : List ℕ) (st : State) (some shown : Bool) (step : Step) → SearchDue ws l us st shown w memo
+    → some ≡ someStartless (problemOf ws) → some ≡ true → step ≡ deadAt st 0 → SearchDone (problemOf ws) w w st step shown
+finished-startless ws l us w memo st some shown step d e so is = record {
+  finished = finished-none ws w st step (record {
+    never = startless-none (problemOf ws) (fair ws (d .walk .walking .filed .passed)) (sym e ∙ so);
+  }) is;
+  none = d .none;
+}
+
+-- it is known that there is no schedule
+pub finished-shown : (ws : List ℕ) (l : Layout) (us w memo : List ℕ) (st : State) (shown : Bool) (step : Step) → SearchDue ws l us st shown w memo
+    → shown ≡ true → step ≡ deadAt st 0 → SearchDone (problemOf ws) w w st step shown
+finished-shown ws l us w memo st shown step d so is = record { finished = finished-none ws w st step (d .none .none so) is; none = d .none }
 
 -- none is without
 pub all-start : (p : Problem) (st : State) (some : Bool) (step : Step) → some ≡ someStartless p → some ≡ false → someStartless p ≡ true
@@ -127,6 +144,10 @@ module _ (ws : List ℕ) (l : Layout) (us w memo : List ℕ) (st : State) (d : W
           };
         }
 
+-- what the root asks of an ask
+pub search-root : (ws : List ℕ) (l : Layout) (us w memo : List ℕ) (st : State) (shown : Bool) → SearchDue ws l us st shown w memo → RootDue ws l us (st .limit .0)
+search-root ws l us w memo st shown d = walk-root ws l us w memo st (d .walk)
+
 -- all units were placed in turn
 pub walk-placed : (p : Problem) (w w′ : List ℕ) (c : ℕ) (st : State) (at : Visit) (step : Step) → AtRoot c st at → PlaceDone p w w′ (at .node) (at .state) step
     → Finished p w w′ st step
@@ -150,16 +171,19 @@ runs-none p st runs e so = true-false (sym so ∙ e)
 -- ---- the ask
 
 -- it begins with no schedule and its own ceiling
-pub ask-begins : (ws : List ℕ) (l : Layout) (us : List ℕ) (ceiling budget used : ℕ) (w memo : List ℕ) (st : State)
-    → AskDue ws l us ceiling w used memo → WalkStart ceiling budget used st → WalkDue ws l us st w memo
-ask-begins ws l us ceiling budget used w memo st d b = record {
-  walking = d .walking;
-  fresh = record {
-    nothing = b .nothing;
-    tries = b .tries;
-    small = omega (arith, b .limit, d .ceiled);
-    held = subst (TableTrue (problemOf ws) w) (sym (b .used)) (d .held);
+pub ask-begins : (ws : List ℕ) (l : Layout) (us : List ℕ) (ask : Ask) (used : ℕ) (w memo : List ℕ) (st : State) (known : Findings)
+    → AskDue ws l us ask w used memo → WalkStart (ask .ceiling) (ask .budget) used st → known ≡ ask .free → SearchDue ws l us st (known .shown) w memo
+ask-begins ws l us ask used w memo st known d b is = record {
+  walk = record {
+    walking = d .walking;
+    fresh = record {
+      nothing = b .nothing;
+      tries = b .tries;
+      small = omega (arith, b .limit, d .ceiled);
+      held = subst (TableTrue (problemOf ws) w) (sym (b .used)) (d .held);
+    };
   };
+  none = rw is (d .none);
 }
 
 module _ (p : Problem) (ceiling budget used : ℕ) (w w′ : List ℕ) (st : State) (step : Step) (b : WalkStart ceiling budget used st)
@@ -275,24 +299,42 @@ module _ (p : Problem) (ceiling budget used : ℕ) (w w′ : List ℕ) (st : Sta
             subst (λ (x : State). Asked p ceiling budget w used w″ (record { state = x; walked = step .walked; runs = runs })) (sym (d .0))
             (asked-spent m e (d .1))
 
-module _ (ws : List ℕ) (l : Layout) (us : List ℕ) (ceiling budget used : ℕ) (w memo w′ : List ℕ) (st : State) (step : Step)
-    (d : AskDue ws l us ceiling w used memo) (b : WalkStart ceiling budget used st) (e : Finished (problemOf ws) w w′ st step) where
+-- what a reply is made from
+pub ask-searched : (ws : List ℕ) (l : Layout) (us : List ℕ) (ask : Ask) (used : ℕ) (w w′ memo : List ℕ) (st : State) (step : Step) (shown : Bool)
+    → AskDue ws l us ask w used memo → WalkStart (ask .ceiling) (ask .budget) used st → SearchDone (problemOf ws) w w′ st step shown
+    → (someStartless (problemOf ws) ≡ true → step ≡ deadAt st 0) → AskSearched ws l us ask w used w′ step shown
+unfolding AskSearched
+ask-searched ws l us ask used w w′ memo st step shown d b h idle = record { memo = memo; due = d; st = st; start = b; done = h; idle = idle }
+
+module _ (ws : List ℕ) (l : Layout) (us : List ℕ) (ask : Ask) (used : ℕ) (w w′ : List ℕ) (step : Step) (shown : Bool)
+    (h : AskSearched ws l us ask w used w′ step shown) where
   -- what the reply asks
   pub ask-replies : ReplyOfDue ws l step w′
-  ask-replies = record {
-    filed = d .walking .filed;
-    permits = best-permits (problemOf ws) ceiling budget used w w′ st step b e;
-    room = end-fits (problemOf ws) ceiling budget used w w′ st step b e (d .room) (d .held);
-    small = end-small (problemOf ws) ceiling budget used w w′ st step b e (d .ceiled);
-  }
+  unfolding AskSearched
+  ask-replies =
+      let d = h .due in
+      let e = h .done .finished in
+      record {
+        filed = d .walking .filed;
+        permits = best-permits (problemOf ws) (ask .ceiling) (ask .budget) used w w′ (h .st) step (h .start) e;
+        room = end-fits (problemOf ws) (ask .ceiling) (ask .budget) used w w′ (h .st) step (h .start) e (d .room) (d .held);
+        small = end-small (problemOf ws) (ask .ceiling) (ask .budget) used w w′ (h .st) step (h .start) e (d .ceiled);
+      }
 
   -- the ask is answered
-  pub ask-answered : (w″ : List ℕ) (r : Reply) → (someStartless (problemOf ws) ≡ true → step ≡ deadAt st 0)
-      → ReplyOf (problemOf ws) step w′ w″ r → Asked (problemOf ws) ceiling budget w used w″ r
-  ask-answered w″ r idle m =
-      subst (λ (k : Walked). Asked (problemOf ws) ceiling budget w used w″ (record { state = r .state; walked = k; runs = r .runs })) (sym (m .walked-is))
-      (asked (problemOf ws) ceiling budget used w w′ st step b e (fair ws (d .walking .filed .passed)) (d .ceiled) (d .room) (d .held) (r .runs)
-      (m .runs-are) idle w″ (r .state) (m .concluded))
+  pub ask-answered : (w″ : List ℕ) (r : Reply) → ReplyOf (problemOf ws) step w′ w″ r → Asked (problemOf ws) (ask .ceiling) (ask .budget) w used w″ r
+  unfolding AskSearched
+  ask-answered w″ r m =
+      let d = h .due in
+      subst (λ (k : Walked). Asked (problemOf ws) (ask .ceiling) (ask .budget) w used w″ (record { state = r .state; walked = k; runs = r .runs }))
+      (sym (m .walked-is))
+      (asked (problemOf ws) (ask .ceiling) (ask .budget) used w w′ (h .st) step (h .start) (h .done .finished) (fair ws (d .walking .filed .passed)) (d .ceiled)
+      (d .room) (d .held) (r .runs) (m .runs-are) (h .idle) w″ (r .state) (m .concluded))
+
+  -- and what is known of the free plant is true
+  pub ask-shown : (known free : Findings) → shown ≡ known .shown → free ≡ known → ShowsNone (problemOf ws) (free .shown)
+  unfolding AskSearched
+  ask-shown known free e is = rw (is, sym e) (h .done .none)
 
 -- AN ASK WHOSE BUDGET IS AT LEAST THE NUMBER OF PLACES IS NEVER SPENT
 pub asked-unspent : (p : Problem) → Fair p → (ceiling budget : ℕ) (w : List ℕ) (used : ℕ) (w′ : List ℕ) (r : Reply)

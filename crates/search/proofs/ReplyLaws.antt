@@ -31,7 +31,7 @@ use Rattle.bound.specs.Tests.{RunsOf}
 use Rattle.state.specs.declared.State.{State}
 use Rattle.state.specs.declared.Walked.{Walked}
 use Rattle.state.specs.declared.Walked.the-variants.{Dead, Spent}
-use Rattle.search.specs.Walk.{IsIncumbent, Incumbent, Halted, Closes}
+use Rattle.walk.specs.Walk.{IsIncumbent, Incumbent, Halted, Closes}
 use Rattle.search.specs.Ask.{answerFor, answerIn}
 
 -- ---- a schedule as an answer has it

@@ -21,9 +21,12 @@ use Rattle.state.specs.declared.State.{State}
 use Rattle.state.specs.declared.Step.{Step}
 use Rattle.state.specs.declared.Walked.{Walked}
 use Rattle.state.specs.declared.Walked.the-variants.{Dead, Spent}
+use Rattle.farkas.specs.Sums.{ShowsNone}
+use Rattle.search.specs.declared.Ask.{Ask}
 use Rattle.search.specs.declared.Reply.{Reply}
-use Rattle.state.specs.State.{EndNoted}
-use Rattle.search.specs.Walk.{TableTrue, Walking}
+use Rattle.state.specs.State.{deadAt, EndNoted, WalkStart}
+use Rattle.walk.specs.Walk.{TableTrue, Walking}
+use Rattle.search.specs.Walks.{SearchDone}
 
 -- what the limit, the best starts, the mark, the runs, and how the walk ended say: a plan, none, a best before the mark, or a mark alone
 abbrev pub answerFor : Problem → ℕ → (best mark runs : List ℕ) → Bool → Walked → Answer
@@ -54,12 +57,26 @@ pub record ReplyOf (p : Problem) (step : Step) (w w′ : List ℕ) (r : Reply) :
   pub concluded : EndNoted w w′ (step .state) (r .state) (step .walked)
   pub walked-is : r .walked ≡ step .walked
 
--- what an ask asks: a ceiling, and a table whose first words hold true nogoods
-pub record AskDue (ws : List ℕ) (l : Layout) (us : List ℕ) (ceiling : ℕ) (w : List ℕ) (used : ℕ) (memo : List ℕ) : Type 0 where
+-- what an ask asks: a ceiling, what is known of the free plant, and a table whose first words hold true nogoods
+pub record AskDue (ws : List ℕ) (l : Layout) (us : List ℕ) (ask : Ask) (w : List ℕ) (used : ℕ) (memo : List ℕ) : Type 0 where
   pub walking : Walking ws l us memo
-  pub ceiled : ceiling < MOST_LIMIT
+  pub ceiled : ask .ceiling < MOST_LIMIT
+  pub none : ShowsNone (problemOf ws) (ask .free .shown)
   pub room : used < length w
   pub held : TableTrue (problemOf ws) w used
+
+-- what an ask's reply is made from: what it asked, the state st in which its walks began, and how they ended
+pub record Searching (ws : List ℕ) (l : Layout) (us : List ℕ) (ask : Ask) (w : List ℕ) (used : ℕ) (w′ : List ℕ) (step : Step) (shown : Bool) : Type 0 where
+  pub memo : List ℕ
+  pub due : AskDue ws l us ask w used memo
+  pub st : State
+  pub start : WalkStart (ask .ceiling) (ask .budget) used st
+  pub done : SearchDone (problemOf ws) w w′ st step shown
+  pub idle : someStartless (problemOf ws) ≡ true → step ≡ deadAt st 0
+
+-- as one fact
+unfoldable pub AskSearched : (ws : List ℕ) → Layout → (us : List ℕ) → Ask → (w : List ℕ) → ℕ → (w′ : List ℕ) → Step → Bool → Type 0
+AskSearched ws l us ask w used w′ step shown = Searching ws l us ask w used w′ step shown
 
 -- an ask with this ceiling and budget, on a table w of true nogoods in so many words, has left the table w′ and this reply
 pub record Asked (p : Problem) (ceiling budget : ℕ) (w : List ℕ) (used : ℕ) (w′ : List ℕ) (r : Reply) : Type 0 where

@@ -1,4 +1,4 @@
--- the walk's state and how it changes
-pub mod Walk
+-- probes, the descent and the last walk
+pub mod Walks
 -- what one ask is told
 pub mod Ask

@@ -1,11 +1,12 @@
-// One ask: the cheapest schedule at or below a ceiling, by depth-first branch and bound. Units are placed in turn, their starts rising; a start that
-// fails, and a unit whose starts have all failed, blame units, and the walk jumps back to the last of them. What was learnt goes into the table of
-// nogoods. Walks at lower ceilings come first: most plans cost little more than the bound at the prices, and a walk under a tight ceiling is short.
-// Units count from 0, starts from 1.
-// `walk` places units and tries starts, `probes` makes the walks of an ask, and here is the ask with its reply: start at `solve`.
+// One ask: the cheapest schedule at or below a ceiling, by depth-first branch and bound. A start that fails, and a unit whose starts have all failed,
+// blame units, and a walk jumps back to the last of them; what was learnt goes into the table of nogoods. Probes come first, at ceilings that rise from
+// the bound at the prices, since most plans cost little more; they take the units in any order, and a descent leads from their plan to the earliest.
+// The walk in the paper's order comes last, where the tries of these are spent. Units count from 0, starts from 1.
+// `gaps` has the probes at rising ceilings, `probes` what follows them, and here is the ask with its reply: start at `solve`.
+use farkas::Findings;
 use model::Layout;
+use probes::Searched;
 use state::State;
-use state::Step;
 use state::Walked;
 use tables::TABLES;
 ghost use mathlib.Core.Path.{_≡_};
@@ -17,11 +18,19 @@ ghost use Rattle.tables.specs.Tables.{priceIn};
 ghost use Rattle.relaxation.specs.Relaxed.{MemoTrue};
 ghost use Rattle.bound.specs.Tests.{someStartless, Permits, RunsOf};
 ghost use Rattle.state.specs.State.{deadAt};
-ghost use Rattle.search.specs.Walk.{WalkDue, Finished};
-ghost use Rattle.search.specs.Ask.{ReplyOfDue, ReplyOf, AskDue, Asked};
+ghost use Rattle.farkas.specs.Sums.{ShowsNone};
+ghost use Rattle.search.specs.Walks.{SearchDue, SearchDone};
+ghost use Rattle.search.specs.Ask.{ReplyOfDue, ReplyOf, AskDue, AskSearched, Asked};
 
+mod gaps;
 mod probes;
-mod walk;
+
+// An ask: its ceiling, its budget, and what is known of the free plant.
+pub struct Ask {
+    pub ceiling: u32,
+    pub budget: u32,
+    pub free: Findings,
+}
 
 // How an ask ended: its last state, with the runs of the best schedule.
 pub struct Reply {
@@ -30,24 +39,59 @@ pub struct Reply {
     pub runs: [u32; 52],
 }
 
-// The walks of an ask; none where some unit has no permitted start.
+// An ask's reply, and what is known of the free plant then.
+pub struct Solved {
+    pub reply: Reply,
+    pub free: Findings,
+}
+
+// The walks of an ask; none where some unit has no permitted start, and where it is known that there is no schedule.
 fn search_all(
     words: &[u32],
     l: Layout,
     tables: &[u32; TABLES],
     st: State,
+    free: Findings,
     table: &mut [u32],
     memo: &mut [u32],
-) -> Step
-    requires { ⌜ WalkDue (now words) l (now tables) st (now table) (now memo) ⌝ }
-    ensures answer { λ r. ⌜ Finished (problemOf (now (words .entry))) (now (table .entry)) (now (table .exit)) st r ⌝ }
-    ensures startless { λ r. ⌜ (someStartless (problemOf (now (words .entry))) ≡ true → r ≡ deadAt st 0) ⌝ }
+) -> Searched
+    requires { ⌜ SearchDue (now words) l (now tables) st (free .shown) (now table) (now memo) ⌝ }
+    ensures answer { λ r. ⌜ SearchDone (problemOf (now (words .entry))) (now (table .entry)) (now (table .exit)) st (r .step) (r .free .shown) ⌝ }
+    ensures startless { λ r. ⌜ (someStartless (problemOf (now (words .entry))) ≡ true → r .step ≡ deadAt st 0) ⌝ }
     ensures recalls { λ r. ⌜ MemoTrue (problemOf (now (words .entry))) (priceIn (now (tables .entry))) (now (memo .exit)) ⌝ }
 {
     if bound::has_no_start(words, l) {
-        return state::dead_end(st, 0);
+        return Searched {
+            step: state::dead_end(st, 0),
+            free,
+        };
     }
-    probes::solve_by_probes(words, l, tables, st, table, memo)
+    if free.shown {
+        return Searched {
+            step: state::dead_end(st, 0),
+            free,
+        };
+    }
+    probes::solve_by_probes(words, l, tables, st, free, table, memo)
+}
+
+// The walks of an ask from its ceiling and budget.
+fn search_ask(
+    words: &[u32],
+    l: Layout,
+    tables: &[u32; TABLES],
+    ask: Ask,
+    table: &mut [u32],
+    used: usize,
+    memo: &mut [u32],
+) -> Searched
+    requires { ⌜ AskDue (now words) l (now tables) ask (now table) used (now memo) ⌝ }
+    ensures answer { λ r. ⌜ AskSearched (now (words .entry)) l (now (tables .entry)) ask (now (table .entry)) used (now (table .exit)) (r .step) (r .free .shown) ⌝ }
+    ensures recalls { λ r. ⌜ MemoTrue (problemOf (now (words .entry))) (priceIn (now (tables .entry))) (now (memo .exit)) ⌝ }
+{
+    let st = state::fresh(ask.ceiling, ask.budget, &table[..], used);
+    let known = ask.free;
+    search_all(words, l, tables, st, known, table, memo)
 }
 
 // The runs of the best schedule, 0 where there is none.
@@ -63,17 +107,23 @@ fn best_runs(words: &[u32], l: Layout, st: State) -> [u32; 52]
 }
 
 // The reply of an ask from how its search ended: the runs of the best schedule, and the conclusion in the table.
-fn make_reply(words: &[u32], l: Layout, step: Step, table: &mut [u32]) -> Reply
-    requires { ⌜ ReplyOfDue (now words) l step (now table) ⌝ }
-    ensures { λ r. ⌜ ReplyOf (problemOf (now (words .entry))) step (now (table .entry)) (now (table .exit)) r ⌝ }
+fn make_reply(words: &[u32], l: Layout, searched: Searched, table: &mut [u32]) -> Solved
+    requires { ⌜ ReplyOfDue (now words) l (searched .step) (now table) ⌝ }
+    ensures answer { λ r. ⌜ ReplyOf (problemOf (now (words .entry))) (searched .step) (now (table .entry)) (now (table .exit)) (r .reply) ⌝ }
+    ensures free { λ r. ⌜ r .free ≡ searched .free ⌝ }
 {
+    let step = searched.step;
+    let free = searched.free;
     let s = step.state;
     let w = step.walked;
     let runs = best_runs(words, l, s);
-    Reply {
-        state: state::note_end(table, s, w),
-        walked: w,
-        runs,
+    Solved {
+        reply: Reply {
+            state: state::note_end(table, s, w),
+            walked: w,
+            runs,
+        },
+        free,
     }
 }
 
@@ -83,17 +133,16 @@ pub fn solve(
     words: &[u32],
     l: Layout,
     tables: &[u32; TABLES],
-    ceiling: u32,
-    budget: u32,
+    ask: Ask,
     table: &mut [u32],
     used: usize,
     memo: &mut [u32],
-) -> Reply
-    requires { ⌜ AskDue (now words) l (now tables) ceiling (now table) used (now memo) ⌝ }
-    ensures answer { λ r. ⌜ Asked (problemOf (now (words .entry))) ceiling budget (now (table .entry)) used (now (table .exit)) r ⌝ }
+) -> Solved
+    requires { ⌜ AskDue (now words) l (now tables) ask (now table) used (now memo) ⌝ }
+    ensures answer { λ r. ⌜ Asked (problemOf (now (words .entry))) (ask .ceiling) (ask .budget) (now (table .entry)) used (now (table .exit)) (r .reply) ⌝ }
+    ensures free { λ r. ⌜ ShowsNone (problemOf (now (words .entry))) (r .free .shown) ⌝ }
     ensures recalls { λ r. ⌜ MemoTrue (problemOf (now (words .entry))) (priceIn (now (tables .entry))) (now (memo .exit)) ⌝ }
 {
-    let st = state::fresh(ceiling, budget, &table[..], used);
-    let step = search_all(words, l, tables, st, table, memo);
-    make_reply(words, l, step, table)
+    let searched = search_ask(words, l, tables, ask, table, used, memo);
+    make_reply(words, l, searched, table)
 }

@@ -1,23 +1,22 @@
-// The walks of an ask: probes at ceilings that rise from the root's bound, then one at the ask's own.
-use crate::walk;
-use crate::walk::Visit;
+// The walks of an ask: from where the probes at gaps have come one at the ask's own ceiling, the descent from a plan, and the last walk.
+use crate::gaps;
+use crate::gaps::Probes;
 use bound::Trial;
 use dual::Node;
+use farkas::Findings;
 use instance::Euro;
 use model::Layout;
 use state::State;
 use state::Step;
-use state::Walked;
 use tables::TABLES;
+use walk::Visit;
 ghost use mathlib.Core.Path.{_≡_};
-ghost use Prim.Native.Nat.{_+_, _<_, _≤_};
-ghost use Rattle.model.specs.Nogood.{MOST_LIMIT};
 ghost use Rattle.model.specs.Words.{problemOf};
 ghost use Rattle.tables.specs.Tables.{priceIn};
 ghost use Rattle.relaxation.specs.Relaxed.{MemoTrue};
-ghost use Rattle.bound.specs.Tests.{RootDue};
-ghost use Rattle.state.specs.State.{renewedAt};
-ghost use Rattle.search.specs.Walk.{AtRoot, WalkDue, Finished, EndsWithPlan};
+ghost use Rattle.state.specs.State.{renewedAt, improvedBy, deadAt};
+ghost use Rattle.walk.specs.Walk.{AtRoot, WalkDue, Finished};
+ghost use Rattle.search.specs.Walks.{SearchDue, SearchDone, GoingDue, PlanDue, CeilingDue, VainDue, AfterDue, Settles, Concludes};
 
 // ---- a walk from the root
 
@@ -62,145 +61,164 @@ fn walk(
     }
 }
 
-// Whether a walk ended unspent and with a plan.
-fn ends_with_plan(step: Step) -> bool
-    ensures { λ r. ⌜ EndsWithPlan step r ⌝ }
+// ---- the end of an ask
+
+// The walk in the paper's order at the ask's own ceiling and with its whole budget: it alone may be spent.
+fn last_walk(
+    words: &[u32],
+    l: Layout,
+    tables: &[u32; TABLES],
+    st: State,
+    s: State,
+    table: &mut [u32],
+    memo: &mut [u32],
+) -> Step
+    requires { ⌜ GoingDue (now words) l (now tables) st s (now table) (now memo) ⌝ }
+    ensures answer { λ r. ⌜ Settles (problemOf (now (words .entry))) (now (table .entry)) (now (table .exit)) st s r ⌝ }
+    ensures recalls { λ r. ⌜ MemoTrue (problemOf (now (words .entry))) (priceIn (now (tables .entry))) (now (memo .exit)) ⌝ }
 {
-    let w = step.walked;
-    match w {
-        Walked::Spent(_) => false,
-        Walked::Dead(_) => step.state.found,
+    let limit = st.limit;
+    let last = state::renewed(s, limit, st.budget);
+    walk(words, l, tables, last, table, memo)
+}
+
+// The state's plan, at its cost.
+fn tell_plan(s: State, cost: Euro) -> Step
+    ensures { λ r. ⌜ r ≡ deadAt (improvedBy s (s .best) cost) 0 ⌝ }
+{
+    let best = s.best;
+    state::dead_end(state::improved(s, best, cost), 0)
+}
+
+// No plan under the limit.
+fn tell_none(s: State, limit: Euro, budget: u32) -> Step
+    ensures { λ r. ⌜ r ≡ deadAt (renewedAt s limit budget) 0 ⌝ }
+{
+    state::dead_end(state::renewed(s, limit, budget), 0)
+}
+
+// From a plan of the least cost the earliest of them; where the tries are spent the last walk.
+fn solve_by_descent(
+    words: &[u32],
+    l: Layout,
+    tables: &[u32; TABLES],
+    st: State,
+    s: State,
+    table: &mut [u32],
+    memo: &mut [u32],
+) -> Step
+    requires { ⌜ PlanDue (now words) l (now tables) st s (now table) (now memo) ⌝ }
+    ensures answer { λ r. ⌜ Settles (problemOf (now (words .entry))) (now (table .entry)) (now (table .exit)) st s r ⌝ }
+    ensures recalls { λ r. ⌜ MemoTrue (problemOf (now (words .entry))) (priceIn (now (tables .entry))) (now (memo .exit)) ⌝ }
+{
+    let cost = s.limit;
+    let r = descent::descend(words, l, tables, s, table, memo);
+    let q = r.state;
+    if r.whole {
+        return tell_plan(q, cost);
     }
+    last_walk(words, l, tables, st, q, table, memo)
 }
 
-// The tries that are left to further probes: none where a walk was spent.
-fn tries_left(left: u32, step: Step) -> u32
-    ensures { λ r. ⌜ r ≤ left ⌝ }
+// One probe at the ask's own ceiling: without a plan there is none; from a plan the descent; where the tries are spent the last walk.
+fn solve_at_ceiling(
+    words: &[u32],
+    l: Layout,
+    tables: &[u32; TABLES],
+    st: State,
+    s: State,
+    table: &mut [u32],
+    memo: &mut [u32],
+) -> Step
+    requires { ⌜ CeilingDue (now words) l (now tables) st s (now table) (now memo) ⌝ }
+    ensures answer { λ r. ⌜ Settles (problemOf (now (words .entry))) (now (table .entry)) (now (table .exit)) st s r ⌝ }
+    ensures recalls { λ r. ⌜ MemoTrue (problemOf (now (words .entry))) (priceIn (now (tables .entry))) (now (memo .exit)) ⌝ }
 {
-    let w = step.walked;
-    match w {
-        Walked::Spent(_) => 0,
-        Walked::Dead(_) => {
-            let tries = step.state.tries;
-            if left < tries {
-                return 0;
-            }
-            left - tries
-        }
+    let limit = st.limit;
+    let step = probe::from_root(words, l, tables, s, table, memo);
+    let ended = gaps::outcome_of(step, limit);
+    let q = step.state;
+    if ended.plan {
+        return solve_by_descent(words, l, tables, st, q, table, memo);
     }
-}
-
-// ---- gaps
-
-// What every schedule costs at least, by the bound with nobody out; the limit where nothing is below it.
-fn root_cost(v: Trial, tables: &[u32; TABLES], limit: Euro) -> Euro
-    ensures { λ r. ⌜ r .0 ≤ limit .0 ⌝ }
-{
-    match v {
-        Trial::Fails(_) => limit,
-        Trial::Holds(sum) => dual::cost_below(tables, sum, limit),
+    if ended.none {
+        return tell_none(q, limit, st.budget);
     }
+    last_walk(words, l, tables, st, q, table, memo)
 }
 
-// The first gap is an 8,192nd of the root's bound.
-const FIRST_PART: u64 = 8192;
-// The last is no more than a 32nd of it.
-const LAST_PART: u64 = 32;
+// How the walks of an ask ended, and what is known of the free plant then.
+pub struct Searched {
+    pub step: Step,
+    pub free: Findings,
+}
 
-// By how much the first probe's ceiling lies above the root's bound: its first part, 1 at least.
-fn first_gap(root: Euro) -> Euro
-    ensures { λ r. ⌜ 1 ≤ r .0 ⌝ }
+// Where the probes at gaps were in vain: none where the free plant shows it, else one probe at the ask's own ceiling.
+fn solve_in_vain(
+    words: &[u32],
+    l: Layout,
+    tables: &[u32; TABLES],
+    st: State,
+    probes: Probes,
+    table: &mut [u32],
+    memo: &mut [u32],
+) -> Searched
+    requires { ⌜ VainDue (now words) l (now tables) st probes (now table) (now memo) ⌝ }
+    ensures answer { λ r. ⌜ Concludes (problemOf (now (words .entry))) (now (table .entry)) (now (table .exit)) st (probes .state) (r .step) (r .free .shown) ⌝ }
+    ensures recalls { λ r. ⌜ MemoTrue (problemOf (now (words .entry))) (priceIn (now (tables .entry))) (now (memo .exit)) ⌝ }
 {
-    let part = root.0 / FIRST_PART;
-    if part == 0 {
-        return Euro(1);
+    let s = probes.state;
+    let known = probes.free;
+    let free = gaps::learn_after(words, l, tables, known, s.budget);
+    if free.shown {
+        let limit = st.limit;
+        return Searched {
+            step: tell_none(s, limit, st.budget),
+            free,
+        };
     }
-    Euro(part)
+    let step = solve_at_ceiling(words, l, tables, st, s, table, memo);
+    Searched { step, free }
 }
 
-// Gaps below this are tried: the probe's ceiling stays below the ask's, and the gap is no more than the bound's last part.
-fn gap_room(root: Euro, limit: Euro) -> Euro
-    requires { ⌜ root .0 ≤ limit .0 ⌝ }
-    ensures { λ r. ⌜ root .0 + r .0 ≤ limit .0 ⌝ }
+// From where the probes at gaps have come.
+fn solve_after(
+    words: &[u32],
+    l: Layout,
+    tables: &[u32; TABLES],
+    st: State,
+    probes: Probes,
+    table: &mut [u32],
+    memo: &mut [u32],
+) -> Searched
+    requires { ⌜ AfterDue (now words) l (now tables) st probes (now table) (now memo) ⌝ }
+    ensures answer { λ r. ⌜ Concludes (problemOf (now (words .entry))) (now (table .entry)) (now (table .exit)) st (probes .state) (r .step) (r .free .shown) ⌝ }
+    ensures recalls { λ r. ⌜ MemoTrue (problemOf (now (words .entry))) (priceIn (now (tables .entry))) (now (memo .exit)) ⌝ }
 {
-    let room = limit.0 - root.0;
-    let most = root.0 / LAST_PART;
-    if room == 0 {
-        return Euro(0);
+    if probes.plan {
+        let s = probes.state;
+        let free = probes.free;
+        let step = solve_by_descent(words, l, tables, st, s, table, memo);
+        return Searched { step, free };
     }
-    if room - 1 <= most {
-        return Euro(room - 1);
-    }
-    Euro(most).plus(Euro(1))
+    solve_in_vain(words, l, tables, st, probes, table, memo)
 }
 
-// The next gap: twice this one, or all the room where no tries are left.
-fn next_gap(gap: Euro, room: Euro, left: u32) -> Euro
-    requires { ⌜ (1 ≤ gap .0) × (gap .0 < room .0) × (room .0 ≤ MOST_LIMIT) ⌝ }
-    ensures { λ r. ⌜ gap .0 < r .0 ⌝ }
-{
-    if left == 0 {
-        return room;
-    }
-    gap.plus(gap)
-}
-
-// ---- probes
-
-// A probe that has not begun: its ceiling lies above the root's bound by the gap, its limit one euro above that; so many tries are left to it.
-fn probe_at(st: State, root: Euro, gap: Euro, left: u32) -> State
-    requires { ⌜ root .0 + gap .0 < MOST_LIMIT ⌝ }
-    ensures { λ r. ⌜ r ≡ renewedAt st (record { 0 = root .0 + gap .0 + 1 }) left ⌝ }
-{
-    state::renewed(st, root.plus(gap).plus(Euro(1)), left)
-}
-
-// What every schedule costs at least, by the bound with nobody out; the ask's limit where nothing is below it.
-fn least_cost(words: &[u32], l: Layout, tables: &[u32; TABLES], limit: Euro) -> Euro
-    requires { ⌜ RootDue (now words) l (now tables) (limit .0) ⌝ }
-    ensures { λ r. ⌜ r .0 ≤ limit .0 ⌝ }
-{
-    let v = bound::root(words, l, tables, limit);
-    root_cost(v, tables, limit)
-}
-
-// The walk of an ask, after walks at ceilings that rise from the root's bound. They share as many tries as the ask's budget; one that finds a plan
-// has found the ask's, and only the last walk, at the ask's own ceiling and with its whole budget, may be spent (D76).
+// An ask: probes at gaps above the root's bound, then one at the ask's own ceiling; from the plan of one the descent to the earliest. Where their tries
+// are spent all is forgotten but what the table holds, and the last walk follows.
 pub fn solve_by_probes(
     words: &[u32],
     l: Layout,
     tables: &[u32; TABLES],
     st: State,
+    free: Findings,
     table: &mut [u32],
     memo: &mut [u32],
-) -> Step
-    requires { ⌜ WalkDue (now words) l (now tables) st (now table) (now memo) ⌝ }
-    ensures answer { λ r. ⌜ Finished (problemOf (now (words .entry))) (now (table .entry)) (now (table .exit)) st r ⌝ }
+) -> Searched
+    requires { ⌜ SearchDue (now words) l (now tables) st (free .shown) (now table) (now memo) ⌝ }
+    ensures answer { λ r. ⌜ SearchDone (problemOf (now (words .entry))) (now (table .entry)) (now (table .exit)) st (r .step) (r .free .shown) ⌝ }
     ensures recalls { λ r. ⌜ MemoTrue (problemOf (now (words .entry))) (priceIn (now (tables .entry))) (now (memo .exit)) ⌝ }
 {
-    let limit = st.limit;
-    let root = least_cost(words, l, tables, limit);
-    let room = gap_room(root, limit);
-    let mut gap = first_gap(root);
-    let mut left = st.budget;
-    let mut s = st;
-    // Each time round, the walks so far have found nothing and left what is true in the table.
-    while gap.0 < room.0 {
-        let step = walk(words, l, tables, probe_at(s, root, gap, left), table, memo);
-        if ends_with_plan(step) {
-            return step;
-        }
-        left = tries_left(left, step);
-        gap = next_gap(gap, room, left);
-        let q = step.state;
-        s = q;
-    }
-    walk(
-        words,
-        l,
-        tables,
-        state::renewed(s, limit, st.budget),
-        table,
-        memo,
-    )
+    let probes = gaps::probe_gaps(words, l, tables, st, free, table, memo);
+    solve_after(words, l, tables, st, probes, table, memo)
 }

@@ -46,6 +46,11 @@ abbrev pub renewedAt : State → Euro → ℕ → State
 renewedAt st c budget =
     record { best = st .best; mark = st .mark; ends = st .ends; found = false; limit = c; tries = 0; budget = budget; used = st .used }
 
+-- the same state under this limit
+abbrev pub limitedTo : State → Euro → State
+limitedTo st c =
+    record { best = st .best; mark = st .mark; ends = st .ends; found = st .found; limit = c; tries = st .tries; budget = st .budget; used = st .used }
+
 -- another number of words is used, and conflicts end at other places
 abbrev pub withTable : State → List ℕ → ℕ → State
 withTable st ends used =

@@ -6,9 +6,10 @@ use nogood::Scan;
 ghost use mathlib.Core.Path.{_≡_};
 ghost use Prim.Native.Nat.{_+_, _<_, _≤_};
 ghost use lib.ListN.{length};
+ghost use Rattle.sums.specs.NumSet.{has, with};
 ghost use Rattle.model.specs.Nogood.{MOST_LIMIT};
 ghost use Rattle.nogood.specs.Recall.{Recalled};
-ghost use Rattle.state.specs.State.{MOST_TRIES, triedOnce, stoppedAt, improvedBy, deadAt, renewedAt, withTable, indexedAt, DeadEndNoted, NoneNoted, EndNoted, WalkStart};
+ghost use Rattle.state.specs.State.{MOST_TRIES, triedOnce, stoppedAt, improvedBy, deadAt, renewedAt, limitedTo, withTable, indexedAt, DeadEndNoted, NoneNoted, EndNoted, WalkStart};
 
 // The walk's state: the starts of the best schedule so far, the mark of a walk that stopped, for each unit where in the table the last nogood that
 // ends at it ends, the limit that a schedule has to stay below, the words of the table in use, the tries made and the most that may be made, and
@@ -94,6 +95,15 @@ pub fn renewed(st: State, limit: Euro, budget: u32) -> State
     s
 }
 
+// The same state under another limit.
+pub fn limited(st: State, limit: Euro) -> State
+    ensures { λ r. ⌜ r ≡ limitedTo st limit ⌝ }
+{
+    let mut s = st;
+    s.limit = limit;
+    s
+}
+
 // A dead end.
 pub fn dead_end(st: State, b: u32) -> Step
     ensures { λ r. ⌜ r ≡ deadAt st b ⌝ }
@@ -113,7 +123,7 @@ const WINDOW: usize = 64;
 const INDEXED: usize = 65536;
 
 // The last unit of a set, 0 where it has none.
-fn last_unit(b: u32) -> usize
+pub fn last_unit(b: u32) -> usize
     ensures { λ r. ⌜ r < 16 ⌝ }
 {
     let mut i = 15;
@@ -169,11 +179,11 @@ fn index(table: &[u32], used: usize) -> [u16; 16]
     ends
 }
 
-// A nogood that begins in the words before the place where the last one ends that ends at unit j, of which the starts have all choices, and whose
-// bound is at or above the walk's own (D58).
-pub fn recalled(table: &[u32], st: State, starts: [u8; 16], j: usize) -> Scan
+// A nogood that begins in the words before the place where the last one ends that ends at unit j, of which the starts of unit j and of the units
+// placed have all choices, and whose bound is at or above the walk's own (D58).
+pub fn recalled(table: &[u32], st: State, starts: [u8; 16], placed: u32, j: usize) -> Scan
     requires { ⌜ j < 16 ⌝ }
-    ensures { λ r. ⌜ Recalled (now (table .entry)) starts (j + 1) (st .limit .0) r ⌝ }
+    ensures { λ r. ⌜ Recalled (now (table .entry)) starts (with (has placed) j) (st .limit .0) r ⌝ }
 {
     let ends = st.ends;
     let limit = st.limit;
@@ -183,14 +193,22 @@ pub fn recalled(table: &[u32], st: State, starts: [u8; 16], j: usize) -> Scan
         to - words::min(to, WINDOW),
         to,
         starts,
-        j + 1,
+        sets::with(placed, j),
         limit.0,
     )
 }
 
-// Notes that the starts of the units of b, all below k, are a dead end below the state's limit, where there is space.
-pub fn note_dead_end(table: &mut [u32], st: State, starts: [u8; 16], k: usize, b: u32) -> State
-    requires { ⌜ (st .used ≤ length (now table)) × (k ≤ 16) × (st .limit .0 ≤ MOST_LIMIT) ⌝ }
+// Notes that the starts of the units of b, all below k, are a dead end below the state's limit, where there is space. It is found again at the unit
+// `last`: that of them which a walk places last.
+pub fn note_dead_end(
+    table: &mut [u32],
+    st: State,
+    starts: [u8; 16],
+    k: usize,
+    b: u32,
+    last: usize,
+) -> State
+    requires { ⌜ (st .used ≤ length (now table)) × (k ≤ 16) × (st .limit .0 ≤ MOST_LIMIT) × (last < 16) ⌝ }
     ensures { λ r. ⌜ DeadEndNoted (now (table .entry)) (now (table .exit)) st r starts k b ⌝ }
 {
     let limit = st.limit;
@@ -200,7 +218,7 @@ pub fn note_dead_end(table: &mut [u32], st: State, starts: [u8; 16], k: usize, b
     if more == used {
         return st;
     }
-    let next = indexed(ends, last_unit(b), more);
+    let next = indexed(ends, last, more);
     with_table(st, next, more)
 }
 

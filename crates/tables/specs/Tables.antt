@@ -2,6 +2,7 @@
 -- Assumes nothing.
 use Prim.Native.Nat.{ℕ, _+_, _*_, _≤_, _<_}
 use mathlib.Core.Path.{_≡_}
+use mathlib.Core.Bool.{Bool}
 use mathlib.Core.List.{List}
 use mathlib.Core.Logic.{_⊎_}
 use lib.ListN.{length, getD}
@@ -35,9 +36,13 @@ ROOT_VALUES = 1888
 abbrev pub TOTAL : ℕ
 TOTAL = 1940
 
+-- whether 52 weeks are hard
+abbrev pub HARD_WEEKS : ℕ
+HARD_WEEKS = 1941
+
 -- the words of the whole
 abbrev pub TABLES : ℕ
-TABLES = 1941
+TABLES = 1993
 
 -- ---- what they hold
 
@@ -73,6 +78,10 @@ rootIn xs t = getD xs (ROOT_VALUES + t) 0
 -- all OFF costs and all prices
 unfoldable pub totalIn : List ℕ → ℕ
 totalIn xs = getD xs TOTAL 0
+
+-- whether week t has too many sets of units out to be tried one by one; advice, of which nothing is asked
+unfoldable pub hardIn : List ℕ → ℕ → Bool
+hardIn xs t = ltb 0 (getD xs (HARD_WEEKS + t) 0)
 
 -- what unit i costs OFF over the season, and its prices in the first n weeks
 unfoldable pub unitTotal : List ℕ → (n i : ℕ) → ℕ

@@ -1,6 +1,6 @@
 // What a walk reads and never changes, in one table of words behind one reference: prices for units that are not out, the partners of each unit in
-// excluded pairs, what each unit costs OFF, what overhauls cost from each start, what weeks are worth with nobody out, and all OFF costs and prices
-// together. Each part is reached by an accessor of its own name. Weeks and units count from 0, starts from 1.
+// excluded pairs, what each unit costs OFF, what overhauls cost from each start, what weeks are worth with nobody out, all OFF costs and prices
+// together, and the weeks that are hard to choose units out for, which is advice. Each part is reached by an accessor of its own name. Weeks and units count from 0, starts from 1.
 use instance::Euro;
 use model::Layout;
 ghost use mathlib.Core.Path.{_≡_};
@@ -8,10 +8,10 @@ ghost use Prim.Native.Nat.{_+_, _*_, _<_, _≤_};
 ghost use Rattle.sums.specs.Sum.{sumTo};
 ghost use Rattle.model.specs.Words.{problemOf};
 ghost use Rattle.instance.specs.Filed.{Filed};
-ghost use Rattle.tables.specs.Tables.{MOST_PRICE, AMOUNTS, priceIn, partnersIn, offIn, excessIn, rootIn, totalIn, unitTotal, Prices, First};
+ghost use Rattle.tables.specs.Tables.{MOST_PRICE, AMOUNTS, priceIn, partnersIn, offIn, excessIn, rootIn, totalIn, hardIn, unitTotal, Prices, First};
 
 // The words of the table.
-pub const TABLES: usize = 1941;
+pub const TABLES: usize = 1993;
 // Where the parts after the prices begin.
 pub const PARTNERS: usize = 832;
 
@@ -22,6 +22,8 @@ pub const START_COSTS: usize = 864;
 pub const ROOT_VALUES: usize = 1888;
 
 pub const TOTAL: usize = 1940;
+
+pub const HARD_WEEKS: usize = 1941;
 // The highest price (D74).
 pub const MOST_PRICE: u64 = 4194304;
 
@@ -77,6 +79,14 @@ pub fn total(tables: &[u32; TABLES]) -> Euro
     ensures { λ r. ⌜ (r .0 ≡ totalIn (now (tables .entry))) × (r .0 < AMOUNTS) ⌝ }
 {
     amount(tables[TOTAL])
+}
+
+// Whether week t has too many sets of units out to be tried one by one.
+pub fn hard_week(tables: &[u32; TABLES], t: usize) -> bool
+    requires { ⌜ t < 52 ⌝ }
+    ensures { λ r. ⌜ r ≡ hardIn (now (tables .entry)) t ⌝ }
+{
+    0 < tables[HARD_WEEKS + t]
 }
 
 // The OFF cost of unit i in all weeks, and its prices.

@@ -27,7 +27,7 @@ fn rising(file: &AskedFile) -> Option<Vec<Ask>> {
 #[test]
 fn the_shortest_table_has_room_for_32_walks_that_end() {
     let mut answers = Answers::default();
-    for seed in 0..400 {
+    for seed in 0..1200 {
         let mut random = Random::seeded(seed);
         let units = 3 + seed as u32 % 3;
         let mut plan = asked_plan(&mut random, 4, units);

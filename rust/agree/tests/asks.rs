@@ -321,7 +321,7 @@ fn what_an_ask_on_another_file_left_in_the_lent_words_changes_no_answer() {
 fn some_asks_on_files_with_many_units_agree() {
     let mut answers = Answers::default();
     let mut full = 0;
-    for seed in 0..200 {
+    for seed in 0..300 {
         let mut random = Random::seeded(seed);
         let plan = many_units(&mut random);
         let mut file = AskedFile::new(encode(&plan));

@@ -28,6 +28,8 @@ pub struct Scheme {
     pub capacity: Normal,
     /// The durations of the overhauls.
     pub duration: Normal,
+    /// The longest duration; 0 for half the season.
+    pub longest: u32,
     /// How many starts a window leaves; 0 for windows that are open all season.
     pub window: u32,
     /// The deviation of a maintenance cost from its curve.
@@ -60,6 +62,7 @@ impl Default for Scheme {
             high: 720.0,
             capacity: Normal::new(200.0, 25.0),
             duration: Normal::new(2.0, 1.0),
+            longest: 0,
             window: 0,
             maint_deviation: 1000.0,
             running_deviation: 2000.0,
@@ -73,9 +76,12 @@ impl Scheme {
     /// The instance. Its figures are drawn in the order in which they stand here.
     pub fn plan(&self) -> Plan {
         let mut draws = Draws::seeded(self.seed);
-        let half = (f64::from(self.weeks) / 2.0).max(1.0);
+        let longest = match self.longest {
+            0 => (f64::from(self.weeks) / 2.0).max(1.0),
+            longest => f64::from(longest),
+        };
         let capacity = draws.list(self.units, |draws| draws.value(self.capacity, 1.0, 1e6));
-        let duration = draws.list(self.units, |draws| draws.value(self.duration, 1.0, half));
+        let duration = draws.list(self.units, |draws| draws.value(self.duration, 1.0, longest));
         let windows = self.windows(&duration, &mut draws);
         Plan {
             crews: self.crews,
@@ -239,17 +245,18 @@ pub fn small_plan(seed: u64) -> Plan {
     plan
 }
 
+/// The FNV-1a sum of a list of bytes.
+#[cfg(test)]
+pub fn checksum(bytes: &[u8]) -> u64 {
+    bytes.iter().fold(0xCBF2_9CE4_8422_2325, |sum, &byte| {
+        (sum ^ u64::from(byte)).wrapping_mul(0x0100_0000_01B3)
+    })
+}
+
 #[cfg(test)]
 mod tests {
-    use super::{Normal, Scheme};
+    use super::{checksum, Normal, Scheme};
     use reference::{bytes_of, encode, read, Plan};
-
-    /// The FNV-1a sum of a list of bytes.
-    fn checksum(bytes: &[u8]) -> u64 {
-        bytes.iter().fold(0xCBF2_9CE4_8422_2325, |sum, &byte| {
-            (sum ^ u64::from(byte)).wrapping_mul(0x0100_0000_01B3)
-        })
-    }
 
     /// Panics unless the instance is accepted and its file has so many words and this sum.
     fn check(scheme: Scheme, count: usize, sum: u64) {

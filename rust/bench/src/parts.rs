@@ -2,10 +2,11 @@
 //! and with one thing changed at a time.
 
 use crate::classes::Class;
+use crate::hard_classes::HardClass;
 use crate::plain_ask::tuned_ask;
 use crate::plain_tuning::{Tuning, TUNED};
 use crate::table;
-use reference::{block_len, encode, word};
+use reference::{block_len, encode, word, Plan};
 use std::time::Instant;
 
 /// A ceiling that no schedule is above.
@@ -15,30 +16,56 @@ const TRIES: u32 = 1_000_000;
 /// The instances of a class.
 const SEEDS: u32 = 5;
 
-/// Prints a table for each size, those with OFF costs last: what is changed, how many instances are
-/// solved, the tries and the milliseconds.
+/// Instances that are looked at together.
+struct Group {
+    name: String,
+    /// What it is chosen by.
+    key: String,
+    plans: Vec<Plan>,
+}
+
+/// Prints a table for each size, those with OFF costs last, then for each kind of hard classes: what is
+/// changed, how many instances are solved, the tries and the milliseconds.
 pub fn run() {
     table::told("geometric means over all instances, solved or not");
     println!("plain twin, {TRIES} tries at most and as many in probes, {SEEDS} instances a class");
     let chosen: Vec<String> = std::env::args().skip(2).collect();
-    for classes in groups() {
-        let size = classes[0].size();
-        if chosen.is_empty() || chosen.contains(&size) {
+    for group in groups() {
+        if chosen.is_empty() || chosen.contains(&group.key) {
             println!();
             table::titles(&["instances", "solved", "walks", "tries", "ms"]);
             for (name, tuning, words) in variants() {
-                let warm = if classes[0].is_warm() { " warm" } else { "" };
-                print_variant(&format!("{size}{warm} {name}"), &classes, &tuning, words);
+                let case = format!("{} {name}", group.name);
+                print_variant(&case, &group.plans, &tuning, words);
             }
         }
     }
 }
 
-/// The classes of each size, those with OFF costs apart.
-fn groups() -> Vec<Vec<Class>> {
-    let all = Class::all();
+/// The classes of each size, those with OFF costs apart, and the hard classes of each kind.
+fn groups() -> Vec<Group> {
+    let (all, hard) = (Class::all(), HardClass::all());
     let same = |a: &Class, b: &Class| a.size() == b.size() && a.is_warm() == b.is_warm();
-    all.chunk_by(same).map(<[Class]>::to_vec).collect()
+    let sizes = all.chunk_by(same).map(|classes| {
+        let (key, warm) = (classes[0].size(), classes[0].is_warm());
+        Group {
+            name: format!("{key}{}", if warm { " warm" } else { "" }),
+            plans: plans(classes, Class::plan),
+            key,
+        }
+    });
+    let kinds = hard.chunk_by(|a, b| a.kind == b.kind).map(|classes| Group {
+        name: classes[0].kind.name().to_string(),
+        key: classes[0].kind.name().to_string(),
+        plans: plans(classes, HardClass::plan),
+    });
+    sizes.chain(kinds).collect()
+}
+
+/// The instances of some classes.
+fn plans<T>(classes: &[T], plan: impl Fn(&T, u32) -> Plan) -> Vec<Plan> {
+    let of_class = |class| (1..=SEEDS).map(|number| plan(class, number)).collect();
+    classes.iter().flat_map::<Vec<Plan>, _>(of_class).collect()
 }
 
 /// The settings as they are and changed: a name, the settings, the words of the table.
@@ -64,6 +91,42 @@ fn variants() -> Vec<(&'static str, Tuning, usize)> {
             "no probes",
             Tuning {
                 probes: false,
+                ..tuned
+            },
+        ),
+        (
+            "probes in order",
+            Tuning {
+                any_order: false,
+                ..tuned
+            },
+        ),
+        (
+            "no free plant",
+            Tuning {
+                free: false,
+                ..tuned
+            },
+        ),
+        (
+            "free plant early",
+            Tuning {
+                early_tries: 10_000,
+                free_rounds: 24,
+                ..tuned
+            },
+        ),
+        (
+            "sets alone",
+            Tuning {
+                sets: u32::MAX,
+                ..tuned
+            },
+        ),
+        (
+            "values may fall",
+            Tuning {
+                grows: false,
                 ..tuned
             },
         ),
@@ -95,18 +158,16 @@ fn variants() -> Vec<(&'static str, Tuning, usize)> {
     variants
 }
 
-/// Solves all instances of some classes, and prints what it took.
-fn print_variant(case: &str, classes: &[Class], tuning: &Tuning, words: usize) {
+/// Solves all instances, and prints what it took.
+fn print_variant(case: &str, plans: &[Plan], tuning: &Tuning, words: usize) {
     let (mut count, mut solved, mut walks, mut tries, mut seconds) = (0.0, 0.0, 0.0, 0.0, 0.0);
-    for class in classes {
-        for number in 1..=SEEDS {
-            let taken = Taken::of(class, number, tuning, words);
-            count += 1.0;
-            solved += f64::from(u32::from(taken.solved));
-            walks += taken.walks.ln();
-            tries += taken.tries.ln();
-            seconds += taken.seconds.ln();
-        }
+    for plan in plans {
+        let taken = Taken::of(plan, tuning, words);
+        count += 1.0;
+        solved += f64::from(u32::from(taken.solved));
+        walks += taken.walks.ln();
+        tries += taken.tries.ln();
+        seconds += taken.seconds.ln();
     }
     let mean = |sum: f64| (sum / count).exp();
     table::figures(
@@ -130,10 +191,9 @@ struct Taken {
 }
 
 impl Taken {
-    fn of(class: &Class, number: u32, tuning: &Tuning, words: usize) -> Self {
-        let plan = class.plan(number);
-        let file = encode(&plan);
-        let (mut block, mut table) = (vec![0; block_len(&plan)], vec![0; words]);
+    fn of(plan: &Plan, tuning: &Tuning, words: usize) -> Self {
+        let file = encode(plan);
+        let (mut block, mut table) = (vec![0; block_len(plan)], vec![0; words]);
         let mut scratch = vec![0; 1 << plan.units];
         let ask = [word(11, OPEN), word(12, TRIES)];
         let start = Instant::now();

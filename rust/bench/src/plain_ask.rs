@@ -4,9 +4,12 @@
 
 use crate::plain::{self, VALUE};
 use crate::plain_file::File;
+use crate::plain_free::Free;
 use crate::plain_memo::{query, Memo};
 use crate::plain_notes::Notes;
-use crate::plain_prices;
+use crate::plain_prices::{self, Prices};
+use crate::plain_probes::Probes;
+use crate::plain_relaxed::Weeks;
 use crate::plain_tuning::{Tuning, TUNED};
 use crate::plain_walk::{Spent, Walk};
 use crate::plain_week;
@@ -63,14 +66,14 @@ pub fn tuned_ask(
     let [ceiling, budget] = ask.map(|word| word & VALUE);
     let mut memo = Memo::new(words, scratch);
     let mut notes = Notes::new(table, tuning.choices);
-    let Some(prices) = plain_prices::find(&file, &mut memo, tuning) else {
+    let Some((free, prices)) = find(&file, &mut memo, tuning) else {
         answer[0] = 2;
         notes.conclude(u64::from(ceiling) + 1);
         return Ok(Effort::default());
     };
-    let probes = Probes::new(prices.root, ceiling, budget, tuning);
+    let probes = Probes::new(prices.0.root, ceiling, budget, tuning);
     let mut walk = Walk::new(&file, tuning, prices, notes, memo);
-    let (ended, walks) = probes.run(&mut walk);
+    let (ended, walks) = probes.run(&mut walk, free);
     if ended.is_ok() {
         walk.notes.conclude(walk.limit);
     }
@@ -81,6 +84,20 @@ pub fn tuned_ask(
         lookups: walk.memo.lookups,
         misses: walk.memo.misses,
     })
+}
+
+/// Prices for the free plant, where these are wanted, and for the plant; none where they show that
+/// there is no schedule.
+fn find<'a>(
+    file: &'a File,
+    memo: &mut Memo,
+    tuning: &'a Tuning,
+) -> Option<(Option<Free<'a>>, (Prices, Weeks))> {
+    let free = match tuning.free {
+        true => Some(Free::new(file, tuning)?),
+        false => None,
+    };
+    Some((free, plain_prices::find(file, memo, tuning)?))
 }
 
 /// The refusals of an ask's own words.
@@ -95,49 +112,6 @@ fn accept_ask(ask: &[u32; 2]) -> Result<(), Refusal> {
         return plain::refuse(10, 1);
     }
     Ok(())
-}
-
-/// The walks of an ask: at rising ceilings first, which share one budget, then at its own.
-struct Probes {
-    root: u64,
-    first_gap: u64,
-    last_gap: u64,
-    growth: u64,
-    ceiling: u64,
-    budget: u32,
-}
-
-impl Probes {
-    fn new(root: u64, ceiling: u32, budget: u32, tuning: &Tuning) -> Self {
-        let last_gap = root / tuning.last_gap;
-        Probes {
-            root,
-            first_gap: (root / tuning.first_gap).max(1),
-            last_gap: if tuning.probes { last_gap } else { 0 },
-            growth: tuning.growth,
-            ceiling: u64::from(ceiling),
-            budget,
-        }
-    }
-
-    /// Walks until one ends with a plan, or that at the ask's ceiling ends: how that one ends, and
-    /// how many there were.
-    fn run(&self, walk: &mut Walk) -> (Result<(), Spent>, u32) {
-        let (mut gap, mut left, mut walks) = (self.first_gap, self.budget, 1);
-        while gap <= self.last_gap && self.root + gap < self.ceiling && left > 0 {
-            let ended = walk.run(self.root + gap + 1, left);
-            walks += 1;
-            if ended.is_err() {
-                walk.best = None;
-                break;
-            }
-            if walk.best.is_some() {
-                return (ended, walks - 1);
-            }
-            (gap, left) = (gap * self.growth, walk.left);
-        }
-        (walk.run(self.ceiling + 1, self.budget), walks)
-    }
 }
 
 /// Writes the block, which is all 0: status, cost, starts, runs, mark.
@@ -230,7 +204,7 @@ mod tests {
 
     /// The settings that an ask takes, and others, so that each mechanism is seen at work alone and
     /// missing, and probes are many though costs are small.
-    fn tunings() -> [Tuning; 7] {
+    fn tunings() -> Vec<Tuning> {
         let probing = Tuning {
             first_gap: 16,
             last_gap: 1,
@@ -243,9 +217,18 @@ mod tests {
             choices: 0,
             ..probing
         };
-        [
+        let by_states = Tuning {
+            sets: 0,
+            round_nodes: 4,
+            pool: 30,
+            short_nodes: 1,
+            walk_nodes: 3,
+            ..probing
+        };
+        vec![
             TUNED,
             probing,
+            by_states,
             bare,
             Tuning { rounds: 3, ..bare },
             Tuning {
@@ -262,6 +245,20 @@ mod tests {
                 choices: 8,
                 ..probing
             },
+            Tuning {
+                any_order: false,
+                ..probing
+            },
+            Tuning {
+                early_tries: 2,
+                free_tries: 3,
+                ..probing
+            },
+            Tuning {
+                sets: 2,
+                walk_nodes: 100,
+                ..probing
+            },
         ]
     }
 
@@ -275,7 +272,7 @@ mod tests {
             let places = survey.places().len() as u32;
             let tuning = &tunings[seed as usize % tunings.len()];
             for ceiling in ceilings(&survey) {
-                for budget in [1, 2, 3, places / 2 + 1, places + 1, MOST] {
+                for budget in [1, 2, 3, 4, 6, 9, places / 2 + 1, places + 1, MOST] {
                     let asked = Ask { ceiling, budget };
                     let table = [64, 500][seed as usize % 2];
                     let status = checked(&survey, asked, table, tuning, seed);
@@ -298,7 +295,7 @@ mod tests {
             let (weeks, units) = (seed as u32 % 5 + 1, seed as u32 / 5 % 4 + 1);
             let survey = Survey::new(&asked_plan(&mut random, weeks, units));
             off.add(survey.plan());
-            let tuning = &tunings[seed as usize % 3];
+            let tuning = &tunings[seed as usize % 4];
             for ceiling in telling_ceilings(&survey, &mut random) {
                 for budget in [1, 2, random.within(3, 50), MOST] {
                     let asked = Ask { ceiling, budget };
@@ -310,6 +307,31 @@ mod tests {
         println!("{statuses:?}, {off}");
         assert!(statuses.len() == 4 && statuses.values().all(|&count| count > 100));
         assert!(off.rarest() > 80);
+    }
+
+    /// Budgets 1, 2, 3 and so on up to what an ask takes, so that tries run out in every probe, in the
+    /// descent and in the walk.
+    #[test]
+    fn every_budget_up_to_enough_is_answered_as_the_reference_says() {
+        let mut statuses = BTreeMap::<Status, usize>::new();
+        for seed in 0..150 {
+            let mut random = Random::seeded(seed);
+            let (weeks, units) = (seed as u32 % 4 + 2, seed as u32 / 4 % 3 + 2);
+            let survey = Survey::new(&asked_plan(&mut random, weeks, units));
+            let tuning = &tunings()[seed as usize % 3];
+            for ceiling in ceilings(&survey) {
+                for budget in 1..80 {
+                    let asked = Ask { ceiling, budget };
+                    let status = checked(&survey, asked, 64, tuning, seed);
+                    *statuses.entry(status).or_default() += 1;
+                    if matches!(status, Status::Plan | Status::None) {
+                        break;
+                    }
+                }
+            }
+        }
+        println!("{statuses:?}");
+        assert!(statuses.len() == 4 && statuses.values().all(|&count| count > 100));
     }
 
     /// What was found by an ask on an instance under an open ceiling: the status and the cost.

@@ -58,18 +58,22 @@ fn write_costs(
 }
 
 /// A week of an accepted file and the units out of it.
-struct Week {
-    demand: u64,
+pub struct Week {
+    /// What is to be met.
+    pub demand: u64,
     units: usize,
     out: u32,
-    capacity: [u64; 16],
-    running: [u64; 16],
-    off: [u64; 16],
+    /// What each unit gives.
+    pub capacity: [u64; 16],
+    /// What it costs running.
+    pub running: [u64; 16],
+    /// What it costs OFF.
+    pub off: [u64; 16],
 }
 
 impl Week {
     /// The week and the units out of a query, where the file has that week.
-    fn of(words: &[u32], query: u32) -> Option<Self> {
+    pub fn of(words: &[u32], query: u32) -> Option<Self> {
         let (weeks, units) = (value(words[0]) as usize, value(words[1]) as usize);
         let week = (query as usize >> 16).checked_sub(1)?;
         if week >= weeks {

@@ -2,16 +2,17 @@
 -- Assumes nothing.
 use Prim.Native.Nat.{_-_}
 use lib.ListN.{length}
+use Rattle.sums.specs.NumSet.{has}
 use borrow.Author.Needs.{needs}
 use Rattle.nogood.proofs.RecallLaws.{Reading, reading-start, reading-next, reading-end, reading-out}
 use Rattle.nogood.proofs.matching.Statement.{statement}
 use Rattle.nogood.proofs.matching.Tie as tie
 
 abbrev Inv-loop : tie.InvT-loop
-Inv-loop table starts k i b₀ m₀ b m = Reading table starts k i b m
+Inv-loop table starts placed i b₀ m₀ b m = Reading table starts (has placed) i b m
 
 abbrev μ-loop : tie.MeasureT-loop
-μ-loop table starts k i b₀ m₀ b m = length table - m
+μ-loop table starts placed i b₀ m₀ b m = length table - m
 
 loop-holds : tie.Need-loop-holds Inv-loop μ-loop
 loop-holds c = search reading-start

@@ -7,10 +7,10 @@ use Rattle.nogood.proofs.recall.Statement.{statement}
 use Rattle.nogood.proofs.recall.Tie as tie
 
 abbrev Inv-loop : tie.InvT-loop
-Inv-loop table from to starts k limit i₀ i = Unit {0}
+Inv-loop table from to starts placed limit i₀ i = Unit {0}
 
 abbrev μ-loop : tie.MeasureT-loop
-μ-loop table from to starts k limit i₀ i = to - i
+μ-loop table from to starts placed limit i₀ i = to - i
 
 loop-holds : tie.Need-loop-holds Inv-loop μ-loop
 loop-holds c = tt

@@ -15,7 +15,20 @@ returns-3 : tie.Need-returns-3
 returns-3 c = search unit-none
 
 returns-4 : tie.Need-returns-4
-returns-4 c = search unit-some
+returns-4 c = search unit-none
+
+returns-5 : tie.Need-returns-5
+returns-5 c = search unit-some
 
 pub unit-met-spec : {M : Type 1} → statement M
-unit-met-spec = tie.close (tie.spec (λ c κs. search needs) returns returns-2 (λ c κs. search needs) returns-3 returns-4)
+unit-met-spec =
+    tie.close
+    (tie.spec
+    (λ c κs. search needs)
+    returns
+    returns-2
+    (λ c κs. search needs)
+    returns-3
+    (λ c κs. search needs)
+    returns-4
+    returns-5)

@@ -1,21 +1,29 @@
 -- `search::solve` meets its contract: the search ends, and its reply is made.
 -- Assumes nothing.
-use Rattle.search.proofs.AskLaws.{ask-begins, ask-replies, ask-answered}
+use Rattle.search.proofs.AskLaws.{ask-replies, ask-answered, ask-shown}
 use borrow.Author.Needs.{needs}
 use Rattle.search.proofs.solve.Statement.{statement}
 use Rattle.search.proofs.solve.Tie as tie
+use Rattle.search.proofs.solve.Reads as reads
+use Rattle.search.proofs.solve.Lts as lts
+use Rattle.search.proofs.make_reply.Reads as make-reply-reads
+use Rattle.search.proofs.search_ask.Reads as search-ask-reads
 
-search-all-requires : tie.Need-search-all-requires
-search-all-requires c κs = search ask-begins
+search-ask-requires : tie.Need-search-ask-requires
+search-ask-requires c κs = search needs
 
 make-reply-requires : tie.Need-make-reply-requires
 make-reply-requires c κs = search ask-replies
 
--- what was asked stands behind more records than a search enters from the end: it looks from the record of `search_all` on
+same-length : tie.Need-same-length
+same-length c = search needs
+
+same-length-2 : tie.Need-same-length-2
+same-length-2 c = search needs
+
 returns : tie.Need-returns
-returns c = (search (ask-answered, c .before .before .before .before .before .before .before .before), search needs)
+returns c = (search ask-answered, (search ask-shown, search needs))
 
 pub solve-spec : {M : Type 1} → statement M
 solve-spec =
-    tie.close
-    (tie.spec (λ c κs. search needs) search-all-requires make-reply-requires (λ c. search needs) (λ c. search needs) returns)
+    tie.close (tie.spec search-ask-requires make-reply-requires same-length same-length-2 returns)

@@ -2,7 +2,6 @@
 -- Assumes nothing.
 use Rattle.state.proofs.TableLaws.{dead-end-noted-of}
 use borrow.Author.Needs.{needs}
-use borrow.Author.Needs.{needs}
 use Rattle.state.proofs.note_dead_end.Statement.{statement}
 use Rattle.state.proofs.note_dead_end.Tie as tie
 
@@ -16,7 +15,6 @@ note-dead-end-spec =
     (λ c κs. search needs)
     (λ c. search needs)
     (λ c. search needs)
-    (λ c κs. search needs)
     (λ c κs. search needs)
     (λ c κs. search needs)
     (λ c. search needs)

@@ -3,6 +3,7 @@
 //! with the bars. A planner, twin or solver runs as a process of its own, so that it can be ended
 //! when its time is up.
 
+mod hard;
 mod lp;
 mod options;
 mod process;
@@ -10,6 +11,7 @@ mod report;
 mod solver;
 
 use crate::classes::{example, Class};
+use crate::hard_classes::HardClass;
 use options::Options;
 use process::Scratch;
 use reference::{bytes_of, encode, Plan};
@@ -39,7 +41,11 @@ pub fn run() -> ExitCode {
         }
         report.rows.push(row);
     }
-    report.print();
+    if options.hard {
+        report.print_hard();
+    } else {
+        report.print();
+    }
     if report.mismatches.is_empty() {
         ExitCode::SUCCESS
     } else {
@@ -50,7 +56,7 @@ pub fn run() -> ExitCode {
 /// The rows to come, and the plans of each: the example, then the chosen classes.
 fn cases(options: &Options) -> Vec<(Row, Vec<Plan>)> {
     let mut cases = vec![];
-    if options.with_example {
+    if options.with_example && !options.hard {
         let row = Row::new("example of 5.1".to_string(), None);
         cases.push((row, vec![example()]));
     }
@@ -59,6 +65,12 @@ fn cases(options: &Options) -> Vec<(Row, Vec<Plan>)> {
             let plans = (1..=options.seeds).map(|number| class.plan(number));
             let row = Row::new(class.name(), Some(class));
             cases.push((row, plans.collect()));
+        }
+    }
+    for class in HardClass::all() {
+        if options.has_hard(&class) {
+            let plans = (1..=options.seeds).map(|number| class.plan(number));
+            cases.push((Row::hard(class), plans.collect()));
         }
     }
     cases

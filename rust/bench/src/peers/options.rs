@@ -2,6 +2,7 @@
 
 use super::solver::Solver;
 use crate::classes::Class;
+use crate::hard_classes::{HardClass, Kind};
 
 /// How to ask for it.
 pub const USAGE: &str = "usage: cargo run --release -p bench -- peers [options]
@@ -9,6 +10,8 @@ pub const USAGE: &str = "usage: cargo run --release -p bench -- peers [options]
   --demands easy,mid   the demands; all where not given
   --windows open       the windows; all where not given
   --off cold           whether OFF costs anything, warm, or nothing, cold; both where not given
+  --hard               the hard classes instead, which have neither demands, windows nor OFF costs
+  --kinds crews,equal  of these the kinds; all where not given
   --seeds 5            the instances of a class
   --limit 20           the seconds that a solver has for an instance
   --budget 268435455   the tries that planner and twin have
@@ -21,6 +24,9 @@ pub struct Options {
     demands: Vec<String>,
     windows: Vec<String>,
     off: Vec<String>,
+    kinds: Vec<String>,
+    /// Whether the hard classes are run instead of the others.
+    pub hard: bool,
     /// The instances of a class.
     pub seeds: u32,
     /// The seconds that a solver has for an instance.
@@ -41,6 +47,8 @@ impl Options {
             demands: vec![],
             windows: vec![],
             off: vec![],
+            kinds: vec![],
+            hard: false,
             seeds: 5,
             limit: 20,
             budget: (1 << 28) - 1,
@@ -48,36 +56,64 @@ impl Options {
             with_example: true,
         };
         while let Some(name) = arguments.next() {
-            if name == "--no-example" {
-                options.with_example = false;
-                continue;
-            }
-            let value = arguments.next().ok_or(format!("{name} wants a value"))?;
             match name.as_str() {
-                "--sizes" => options.sizes = list(&value, known(Class::size))?,
-                "--demands" => options.demands = list(&value, known(Class::demand))?,
-                "--windows" => options.windows = list(&value, known(Class::windows))?,
-                "--off" => options.off = list(&value, known(Class::off))?,
-                "--seeds" => options.seeds = number(&value)?,
-                "--limit" => options.limit = number(&value)?,
-                "--budget" => options.budget = number(&value)?,
-                "--without" => options.without = list(&value, solvers())?,
-                _ => return Err(format!("{name} is no option")),
+                "--no-example" => options.with_example = false,
+                "--hard" => options.hard = true,
+                _ => {
+                    let value = arguments.next().ok_or(format!("{name} wants a value"))?;
+                    options.set(&name, &value)?;
+                }
             }
         }
         Ok(options)
     }
 
+    /// Sets an option to a value, where there is such an option.
+    fn set(&mut self, name: &str, value: &str) -> Result<(), String> {
+        match name {
+            "--sizes" => self.sizes = list(value, sizes())?,
+            "--demands" => self.demands = list(value, known(Class::demand))?,
+            "--windows" => self.windows = list(value, known(Class::windows))?,
+            "--off" => self.off = list(value, known(Class::off))?,
+            "--kinds" => self.kinds = list(value, kinds())?,
+            "--seeds" => self.seeds = number(value)?,
+            "--limit" => self.limit = number(value)?,
+            "--budget" => self.budget = number(value)?,
+            "--without" => self.without = list(value, solvers())?,
+            _ => return Err(format!("{name} is no option")),
+        }
+        Ok(())
+    }
+
     /// Whether a class is among those chosen.
     pub fn has(&self, class: &Class) -> bool {
-        let chosen = |names: &[String], name: &str| {
-            names.is_empty() || names.iter().any(|chosen| chosen == name)
-        };
-        chosen(&self.sizes, &class.size())
+        !self.hard
+            && chosen(&self.sizes, &class.size())
             && chosen(&self.demands, &class.demand())
             && chosen(&self.windows, &class.windows())
             && chosen(&self.off, &class.off())
     }
+
+    /// Whether a hard class is among those chosen.
+    pub fn has_hard(&self, class: &HardClass) -> bool {
+        self.hard && chosen(&self.sizes, &class.size()) && chosen(&self.kinds, class.kind.name())
+    }
+}
+
+/// Whether a name is among those chosen, which are all where none is.
+fn chosen(names: &[String], name: &str) -> bool {
+    names.is_empty() || names.iter().any(|chosen| chosen == name)
+}
+
+/// The sizes of all classes.
+fn sizes() -> Vec<String> {
+    let hard = HardClass::all();
+    let hard = hard.iter().map(HardClass::size);
+    known(Class::size).into_iter().chain(hard).collect()
+}
+
+fn kinds() -> Vec<String> {
+    Kind::ALL.map(|kind| kind.name().to_string()).to_vec()
 }
 
 /// What all classes have by a name of theirs.

@@ -4,17 +4,16 @@ use crate::plain_ask;
 use reference::{block_len, load, read, word};
 use std::fs::{self, File};
 use std::path::PathBuf;
-use std::process::{Command, ExitCode, Stdio};
+use std::process::{Child, Command, ExitCode, Stdio};
 use std::time::{Duration, Instant};
 
 /// A ceiling that no schedule is above.
 const OPEN: u32 = (1 << 28) - 1;
-/// Asks that take less than this many seconds in all are put again, up to `TURNS` times.
-const SHORT: f64 = 0.5;
-/// How often an ask is put at most.
-const TURNS: usize = 5;
+/// An ask is put again until this many seconds are over, as the system's clock may tell a thread no
+/// less than a thousandth.
+const TOGETHER: f64 = 0.1;
 /// How often a process is looked after.
-const GLANCE: Duration = Duration::from_micros(200);
+const GLANCE: Duration = Duration::from_millis(1);
 /// What a solver that has its own clock may take longer than its limit.
 const GRACE: u32 = 5;
 
@@ -47,8 +46,8 @@ impl Scratch {
         })
     }
 
-    /// Runs a command: what it printed, and the seconds until it ended. A command that takes longer
-    /// than its limit is ended.
+    /// Runs a command: what it printed, and the seconds that it took. A command that takes longer than
+    /// its limit is ended.
     pub fn run(&self, command: &mut Command, limit: u32) -> (String, f64) {
         let printed = File::create(self.path("printed")).expect("temporary files can be written");
         let start = Instant::now();
@@ -59,15 +58,56 @@ impl Scratch {
             .spawn();
         let mut child = child.expect("the command is installed");
         let most = Duration::from_secs(u64::from(limit + GRACE));
-        while !matches!(child.try_wait(), Ok(Some(_))) {
+        while !has_ended(&mut child) {
             if most < start.elapsed() {
                 child.kill().expect("the process is still there");
-                child.wait().expect("the process ends");
             }
             std::thread::sleep(GLANCE);
         }
-        let seconds = start.elapsed().as_secs_f64();
+        let used = used_by(&child.id().to_string());
+        child.wait().expect("the process ends");
+        let seconds = used.unwrap_or(start.elapsed().as_secs_f64());
         (self.text("printed"), seconds)
+    }
+}
+
+/// Whether a process has ended; where the system tells it, the process is then still known to it.
+fn has_ended(child: &mut Child) -> bool {
+    let told = fs::read_to_string(format!("/proc/{}/stat", child.id()));
+    let state = told
+        .ok()
+        .and_then(|told| told.split(") ").nth(1)?.chars().next());
+    match state {
+        Some(state) => state == 'Z',
+        None => matches!(child.try_wait(), Ok(Some(_))),
+    }
+}
+
+/// The seconds of processor time of a process, or of this thread, where the system tells them.
+fn used_by(who: &str) -> Option<f64> {
+    let told = fs::read_to_string(format!("/proc/{who}/schedstat")).ok()?;
+    let nanoseconds: f64 = told.split_whitespace().next()?.parse().ok()?;
+    Some(nanoseconds / 1e9)
+}
+
+/// A clock for what this thread does: of processor time, where the system tells it.
+struct Clock {
+    start: Instant,
+    used: Option<f64>,
+}
+
+impl Clock {
+    fn new() -> Self {
+        Clock {
+            start: Instant::now(),
+            used: used_by("thread-self"),
+        }
+    }
+
+    /// The seconds since it was made.
+    fn seconds(&self) -> f64 {
+        let used = used_by("thread-self").zip(self.used);
+        used.map_or(self.start.elapsed().as_secs_f64(), |(now, then)| now - then)
     }
 }
 
@@ -90,7 +130,7 @@ pub fn asking(who: &str, scratch: &Scratch, table: usize, budget: u32) -> Comman
 }
 
 /// Puts an ask to the planner or the twin and prints the status, the cost and the seconds, in the
-/// median where it was short and is put again.
+/// mean where it is short and put again.
 pub fn answer() -> ExitCode {
     let arguments: Vec<String> = std::env::args().skip(2).collect();
     let [who, path, table, budget] = &arguments[..] else {
@@ -106,17 +146,19 @@ pub fn answer() -> ExitCode {
     let mut block = vec![0; block_len(&plan)];
     let mut table = vec![0; table.parse().expect("a number of words")];
     let mut scratch = vec![0; 1 << plan.units];
-    let mut seconds = vec![];
-    while seconds.len() < TURNS && seconds.iter().sum::<f64>() < SHORT {
-        let start = Instant::now();
+    let (clock, mut count) = (Clock::new(), 0.0);
+    let seconds = loop {
         if who == "twin" {
             plain_ask::ask(&words, &ask, &mut block, &mut table, &mut scratch).expect("accepted");
         } else {
             ffi::run(&words, &ask, &mut block, &mut table, &mut scratch).expect("accepted");
         }
-        seconds.push(start.elapsed().as_secs_f64());
-    }
-    seconds.sort_by(f64::total_cmp);
-    println!("{} {} {}", block[0], block[1], seconds[seconds.len() / 2]);
+        count += 1.0;
+        let seconds = clock.seconds();
+        if TOGETHER <= seconds {
+            break seconds / count;
+        }
+    };
+    println!("{} {} {seconds}", block[0], block[1]);
     ExitCode::SUCCESS
 }

@@ -2,21 +2,27 @@
 
 use super::solver::{Outcome, Solver, Verdict};
 use crate::classes::Class;
+use crate::hard_classes::{HardClass, Kind};
 use crate::table;
 
 /// A class, or the example: what each solver came to on each of its instances.
 pub struct Row {
-    name: String,
-    /// The class; none for the example, which is in no bar.
+    /// Its name.
+    pub name: String,
+    /// The class; none for the example, which is in no bar, and for hard classes.
     class: Option<Class>,
+    /// What makes a hard class hard.
+    pub kind: Option<Kind>,
     /// For each instance, what each solver came to.
     pub files: Vec<Vec<Outcome>>,
 }
 
 /// All rows.
 pub struct Report {
-    solvers: Vec<Solver>,
-    limit: u32,
+    /// The solvers.
+    pub solvers: Vec<Solver>,
+    /// The seconds that each has for an instance.
+    pub limit: u32,
     /// The rows.
     pub rows: Vec<Row>,
     /// A line for each instance on which two solvers differ.
@@ -32,7 +38,16 @@ impl Row {
         Row {
             name,
             class,
+            kind: None,
             files: vec![],
+        }
+    }
+
+    /// The row of a hard class, without instances yet.
+    pub fn hard(class: HardClass) -> Self {
+        Row {
+            kind: Some(class.kind),
+            ..Row::new(class.name(), None)
         }
     }
 
@@ -86,11 +101,8 @@ impl Report {
     /// Prints the table, the bars and the mismatches.
     pub fn print(&self) {
         table::told("medians over the instances of a class, of ratios too");
-        println!(
-            "seconds, limit {}: of a solver's process; of the call for highs, planner, twin (these the",
-            self.limit
-        );
-        println!("median of up to 5); the example is in no bar");
+        self.print_seconds();
+        println!("the example is in no bar");
         self.print_table();
         println!();
         for solver in &self.solvers {
@@ -98,12 +110,26 @@ impl Report {
                 self.print_bars(*solver);
             }
         }
+        self.print_mismatches();
+    }
+
+    /// Prints whether all answers are equal, and where they are not.
+    pub fn print_mismatches(&self) {
         match self.mismatches.len() {
             0 => println!("all answers are equal: met"),
             count => println!("{count} INSTANCES WITH DIFFERENT ANSWERS: missed"),
         }
         let lines = self.mismatches.iter();
         lines.for_each(|line| println!("MISMATCH {line}"));
+    }
+
+    /// Prints what seconds are.
+    pub fn print_seconds(&self) {
+        println!(
+            "seconds of processor time, limit {}: of a solver's process; of the call for highs, planner",
+            self.limit
+        );
+        println!("and twin");
     }
 
     fn print_table(&self) {
@@ -128,14 +154,19 @@ impl Report {
         }
     }
 
+    /// What a solver came to on an instance, where it takes part.
+    pub fn outcome(&self, file: &[Outcome], solver: Solver) -> Option<Outcome> {
+        let place = self.solvers.iter().position(|&other| other == solver)?;
+        Some(file[place])
+    }
+
     /// The seconds of a solver on an instance, where it takes part.
     fn seconds(&self, file: &[Outcome], solver: Solver) -> Option<f64> {
-        let place = self.solvers.iter().position(|&other| other == solver)?;
-        Some(file[place].seconds)
+        Some(self.outcome(file, solver)?.seconds)
     }
 
     /// The seconds of the fastest peer that solved an instance; the limit where none did.
-    fn best_peer(&self, file: &[Outcome]) -> Option<f64> {
+    pub fn best_peer(&self, file: &[Outcome]) -> Option<f64> {
         let peers = self.solvers.iter().zip(file);
         let peers = peers.filter(|(solver, _)| solver.is_peer());
         let limit = f64::from(self.limit);
@@ -147,12 +178,12 @@ impl Report {
     }
 
     /// How many times as long the best peer takes as a solver.
-    fn lead(&self, file: &[Outcome], solver: Solver) -> Option<f64> {
+    pub fn lead(&self, file: &[Outcome], solver: Solver) -> Option<f64> {
         Some(self.best_peer(file)? / self.seconds(file, solver)?)
     }
 
     /// How many times as long a solver takes as the twin.
-    fn to_twin(&self, file: &[Outcome], solver: Solver) -> Option<f64> {
+    pub fn to_twin(&self, file: &[Outcome], solver: Solver) -> Option<f64> {
         Some(self.seconds(file, solver)? / self.seconds(file, Solver::Twin)?)
     }
 
@@ -226,7 +257,7 @@ impl Report {
 }
 
 /// Prints a figure in its column.
-fn figure(figure: Option<f64>, decimals: usize) {
+pub fn figure(figure: Option<f64>, decimals: usize) {
     match figure {
         Some(figure) => print!(" {figure:>9.decimals$}"),
         None => print!(" {:>9}", "-"),
@@ -234,12 +265,12 @@ fn figure(figure: Option<f64>, decimals: usize) {
 }
 
 /// The geometric mean.
-fn mean(figures: &[f64]) -> f64 {
+pub fn mean(figures: &[f64]) -> f64 {
     let sum: f64 = figures.iter().map(|figure| figure.ln()).sum();
     (sum / figures.len() as f64).exp()
 }
 
-fn met(is_met: bool) -> &'static str {
+pub fn met(is_met: bool) -> &'static str {
     if is_met {
         "met"
     } else {

@@ -1,20 +1,19 @@
 -- `prices::wants::choose_weeks` meets its contract: the sum so far has less than 2^28 for each week, and the memo is right.
 -- Assumes nothing.
-use Prim.Native.Nat.{_-_, _*_, _≤_}
-use mathlib.Core.Path.{_≡_, refl}
-use lib.ListN.{length}
-use Rattle.model.specs.Words.{problemOf}
-use Rattle.model.specs.Commitment.{NO_RUN}
-use Rattle.memo.specs.Memo.{Right, Others}
-use Rattle.memo.proofs.EntryLaws.{others-same, others-trans}
 use Rattle.prices.proofs.RangeLaws.{priced-week}
+use Rattle.memo.proofs.EntryLaws.{others-same, others-trans}
+use Rattle.memo.specs.Memo.{Right, Others}
+use Rattle.model.specs.Commitment.{NO_RUN}
+use Rattle.model.specs.Words.{problemOf}
+use lib.ListN.{length}
+use mathlib.Core.Path.{_≡_, refl}
+use Prim.Native.Nat.{_-_, _*_, _≤_}
 use borrow.Author.Needs.{needs}
 use Rattle.prices.proofs.wants.choose_weeks.Statement.{statement}
 use Rattle.prices.proofs.wants.choose_weeks.Tie as tie
 
 abbrev Inv-loop : tie.InvT-loop
-Inv-loop words l tables wants₀ memo₀ weeks sum₀ t₀ wants memo sum t =
-    (t ≤ weeks) × (weeks ≤ 52) × (sum .0 ≤ NO_RUN * t) × Right (problemOf words) memo × Others memo₀ memo × (length memo ≡ length memo₀)
+Inv-loop words l tables wants₀ memo₀ weeks sum₀ t₀ wants memo sum t = (t ≤ weeks) × (weeks ≤ 52) × (sum .0 ≤ NO_RUN * t) × Right (problemOf words) memo × Others memo₀ memo × (length memo ≡ length memo₀)
 
 abbrev μ-loop : tie.MeasureT-loop
 μ-loop words l tables wants₀ memo₀ weeks sum₀ t₀ wants memo sum t = weeks - t
@@ -38,9 +37,11 @@ choose-weeks-spec =
     Inv-loop
     μ-loop
     loop-holds
+    (λ c κs. search needs)
     best-choice-requires
     (λ c. search needs)
     returns
+    (λ c κs. search needs)
     (λ c. search needs)
     (λ c. search needs)
     (λ c κs. search needs)

@@ -1,0 +1,2 @@
+-- the walk's state and how it changes
+pub mod Walk
