@@ -134,7 +134,8 @@ pub extern "C" fn novelbrisca_week_costs(
     codes::refusal_number(verdict)
 }
 
-// A run of asks, each answered in its block of the lent words: the refusal's number, 0 where all were answered.
+// A run of asks, each answered in its block of the lent words: the refusal's number, 0 where all were answered. An ask makes at most
+// twice its budget of tries (D105; not proved).
 #[no_mangle]
 pub extern "C" fn novelbrisca_run(
     words: &[u32],

@@ -353,7 +353,8 @@ fn answer_all(
     answer_priced(words, l, asks, answers, table, scratch);
 }
 
-// A run of asks: refused, and every lent word as it was; or every ask answered (D62).
+// A run of asks: refused, and every lent word as it was; or every ask answered (D62). An ask makes at most twice its budget of tries, and the work
+// outside of them is bounded for each week of the file (D105, D106); that is how the code is built, and not part of what is proved.
 pub fn run(
     words: &[u32],
     asks: &[u32],

@@ -81,8 +81,8 @@ impl Report {
             let leads = files.filter_map(|file| self.lead(file, solver));
             let mean = mean(&leads.collect::<Vec<_>>());
             println!(
-                "best peer / {name}, no schedule for want of crews or windows: {mean:.1} (at least {NONE_LEAD}): {}; lowest class {ratio:.1} at {class}",
-                met(NONE_LEAD <= mean)
+                "best peer / {name}, no schedule for want of crews or windows, lowest class: {ratio:.1} at {class} (at least {NONE_LEAD}): {}; mean of all {mean:.1}",
+                met(NONE_LEAD <= ratio)
             );
         }
         let own = |file: &&[Outcome]| self.outcome(file, solver);
