@@ -1,4 +1,6 @@
 // The words of a list of asks: the ceiling and the budget of each, and what turns a run away: the file, the asks, lent memory, in that order.
+#![tactic(auto)]
+
 ghost use Rattle.std.specs.Prelude.{◌≡◌, ◌^◌, ◌<◌, ◌≤◌, length};
 ghost use Rattle.model.specs.Words.{VALUES, problem_of};
 ghost use Rattle.model.specs.Verdict.{first_fault};

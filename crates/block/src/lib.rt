@@ -1,4 +1,6 @@
 // The block of an answer in lent words: status, cost, starts, run numbers, mark; what a status has none of is 0.
+#![tactic(auto)]
+
 ghost use Rattle.std.specs.Prelude.{◌≡◌, ◌+◌, ◌<◌, ◌≤◌, length};
 ghost use Rattle.sums.specs.Logic.{if};
 ghost use Rattle.sums.specs.Range.{list_to};

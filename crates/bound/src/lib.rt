@@ -2,6 +2,8 @@
 // is worth at the prices; a start is tested on the weeks of its overhaul alone. Every test that fails names units whose starts are a dead end.
 // Weeks and units count from 0, starts from 1.
 // `tallies` has the row words, `weeks` the tests of an overhaul's weeks, and here are rows, bounds, and the cost and runs of a plan: start at `test`.
+#![tactic(auto)]
+
 ghost use Rattle.std.specs.Prelude.{◌≡◌, ◌+◌, ◌/◌, ◌%◌, ◌<◌, ◌≤◌, replicate};
 ghost use Rattle.sums.specs.Sum.{sum_to};
 ghost use Rattle.sums.specs.NumSet.{has};
@@ -32,7 +34,7 @@ mod tallies;
 mod weeks;
 
 // A start holds, and the lower bound with it is this; or it fails, by the starts of these units.
-#[derive(Drop)]
+#[derive(Clone, Copy)]
 pub enum Trial {
     Holds(Euro),
     Fails(u32),

@@ -20,7 +20,7 @@ use model::{Layout, NO_RUN};
 use tables::TABLES;
 
 // The weeks of an overhaul, from the first to before the end.
-#[derive(Drop)]
+#[derive(Clone, Copy)]
 struct Weeks {
     first: usize,
     end: usize,

@@ -3,6 +3,8 @@
 // one number, and its refusal's place has a function of its own. A quote is one number too; its refusals are the file's, so the read's place serves,
 // as it does for a list of week costs. A run of asks has its refusal's number, and the place from a function of its own. Each calls one function
 // below and leaves it to `codes` to turn the answer into a number.
+#![tactic(auto)]
+
 ghost use Rattle.std.specs.Prelude.{◌≡◌, length};
 ghost use Rattle.model.specs.Bytes.{load_of, loaded_into};
 ghost use Rattle.model.specs.Reading.{read_of};

@@ -1,4 +1,6 @@
 // The judge of a grid: sound at its cost, or the smallest number among the formulas broken, or turned away under one number with a place.
+#![tactic(auto)]
+
 ghost use Rattle.std.specs.Prelude.{◌<◌, ◌≤◌, ◌≡◌, length};
 ghost use Rattle.model.specs.Words.{VALUES, problem_of};
 ghost use Rattle.model.specs.Grid.{cell};
@@ -19,7 +21,7 @@ use instance::Euro;
 use model::Layout;
 
 // A grid is sound at a cost, breaks a formula, or is turned away under a number at a place.
-#[derive(Drop)]
+#[derive(Clone, Copy)]
 pub enum Judgement {
     Sound(u64),
     Breaks(u32),

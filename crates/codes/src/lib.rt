@@ -1,5 +1,7 @@
 // Answers as plain numbers, for callers that have no enums: a refusal's number and its place, the number given, a judgement and a quote as one
 // number each.
+#![tactic(auto)]
+
 ghost use Rattle.std.specs.Prelude.{◌≡◌};
 ghost use Rattle.decoder.specs.Answers.{verdict_of, figure_of};
 ghost use Rattle.checker.specs.Answers.{judgement_of};

@@ -1,6 +1,8 @@
 // One week: the tally of the units out, and the cheapest run of the others. A run's score is its cost, with all other units OFF, times SCALE, and
 // its number, so that the least score has the least cost and, of equal costs, the smallest number; a unit's weight is what it adds to a score. Units
 // that cost less running than OFF are thrifty: they run whether they are needed or not. Weeks and units count from 0.
+#![tactic(auto)]
+
 ghost use Rattle.std.specs.Prelude.{◌≡◌, ◌||◌, ℕ, ◌+◌, ◌-◌, ◌*◌, ◌<◌, ◌≤◌};
 ghost use Rattle.sums.specs.NumSet.{has, with};
 ghost use Rattle.model.specs.Words.{problem_of};
@@ -18,7 +20,7 @@ use instance::{Euro, Kilo};
 use model::Layout;
 
 // The units out in a week, their number, and their maintenance cost.
-#[derive(Drop)]
+#[derive(Clone, Copy)]
 pub struct Tally {
     pub out: u32,
     pub count: usize,
@@ -57,7 +59,7 @@ impl Tally {
 }
 
 // A week's cheapest run, by its number, with its cost; or nothing, where the units that are not out fall short even together.
-#[derive(Drop)]
+#[derive(Clone, Copy)]
 pub enum BestRun {
     Nothing,
     Run(u32, Euro),

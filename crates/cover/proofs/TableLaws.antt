@@ -4,7 +4,7 @@ use Prim.Native.Nat.{ℕ, zero, suc, ◌+◌, ◌-◌, ◌*◌, ◌≤◌, ◌<�
 use mathlib.Core.Path.{◌≡◌, refl, sym, ◌∙◌, ap, subst}
 use mathlib.Core.Bool.{Bool, true, false, not}
 use mathlib.Core.List.{List}
-use native.Mathlib.Nat.{mul-le-mul, mul-le-mul_left, mul-le-mul_right, mul_add, add-mul, one-mul}
+use native.Mathlib.Nat.{mul-le-mul, mul-le-mul_left, mul-le-mul_right, mul-add, add-mul, one-mul}
 use native.Mathlib.Decide.{ℕ_discrete}
 use native.Mathlib.Omega.{arith}
 use lib.ListN.{get_or, set, replicate, length-set, length-replicate}
@@ -54,10 +54,10 @@ surplus_most rate free gives weighs z (suc k) h = by (z k) refl (free k) refl (s
         → rate * sum_to k (only_in z gives) ≤ sum_to k (only_in z weighs) + sum_to k (only_in free (surplus rate gives weighs))
         → rate * (sum_to k (only_in z gives) + if a (gives k) 0) ≤ sum_to k (only_in z weighs) + if a (weighs k) 0 +
         (sum_to k (only_in free (surplus rate gives weighs)) + if b (surplus rate gives weighs k) 0)
-    by true e true f ih = omega (arith, ih, mul_add rate (sum_to k (only_in z gives)) (gives k), surplus_at rate gives weighs k)
+    by true e true f ih = omega (arith, ih, mul-add rate (sum_to k (only_in z gives)) (gives k), surplus_at rate gives weighs k)
     by true e false f ih = true_false (sym (h k (omega arith) e) ∙ f)
-    by false e true f ih = omega (arith, ih, mul_add rate (sum_to k (only_in z gives)) 0)
-    by false e false f ih = omega (arith, ih, mul_add rate (sum_to k (only_in z gives)) 0)
+    by false e true f ih = omega (arith, ih, mul-add rate (sum_to k (only_in z gives)) 0)
+    by false e false f ih = omega (arith, ih, mul-add rate (sum_to k (only_in z gives)) 0)
 
 -- the rest of the need cannot be had below the best
 pub cut_rate : (out : ℕ) (caps weights cuts : List ℕ) (k need weight best : ℕ) (r : Bool) → CoverTables out caps weights cuts → k ≤ 16

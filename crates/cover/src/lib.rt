@@ -1,5 +1,7 @@
 // A need covered by free units at the least weight. The choice goes depth first from the highest unit down, each left out before it is taken, and is
 // cut where the units left cannot suffice, or cannot get below the best. Sets of units are the bits of a word; tables have a place for each of 16.
+#![tactic(auto)]
+
 ghost use Rattle.std.specs.Prelude.{◌≡◌, ◌+◌, ◌-◌, ◌*◌, ◌<◌, ◌≤◌, leb};
 ghost use Rattle.sums.specs.Sum.{sum_to};
 ghost use Rattle.sums.specs.NumSet.{has, complement, only_in};
@@ -22,7 +24,7 @@ const CUTS: usize = 35;
 
 // Advice on a cover: a rate, the weight to be charged for a kilogram, and a guess at the units, which may have units that are out. It decides the
 // time that is taken, and nothing else.
-#[derive(Drop)]
+#[derive(Clone, Copy)]
 struct Advice {
     rate: u64,
     guess: u32,

@@ -19,7 +19,7 @@ use denote.Slice.{slice_val, ShrSlice}
 use denote.Steps.{owned, nothing}
 use denote.Struct.Declared.{Declared}
 use denote.Struct.Laws as LL
-use denote.Struct.Rest.{all_own, field_own, rest, own_open, own_out, own_put}
+use denote.Struct.Rest.{all_own, field_own, rest, own_open, own-out, own_put}
 use denote.Struct.Values.{Values}
 use Rattle.decoder.specs.declared.Reader.{Reader}
 use Rattle.decoder.specs.contracts.Reader as T
@@ -89,7 +89,7 @@ module _ {M : Type 1} {𝓤 : Ura M} (𝓛 : Logic 𝓤) (κ : Lft) (d : Reader)
       qed 𝓛 (token 𝓤 κ q ∷ ‵ (owns (Row (κ, tt) ∷ []) (d, tt) (mach d ∷ [], tt)) ∷ []) ∵
       move ! (1 ∷ []) $ fsplit ! $ move ! (1 ∷ []) $ drop ! $ use1 𝓛 (‵ (Own κ d) ⊛ ‵ (Own κ d)) (twice (mach d)) $ split ! $
       use1 𝓛 (given (mach d ∷ [] ≡ mach d ∷ []) (‵ (all_own (D κ).parts (L κ) vd))) (own_open 𝓛 (D κ) (L κ) vd (mach d)) $ learn ! (λ _.
-      use1 𝓛 (‵ (field_own (D κ).parts (L κ) 0 d.words) ⊛ ‵ (rest (D κ).parts (L κ) 0 vd)) (own_out 𝓛 (D κ).parts (L κ) 0 vd) $ split ! $
+      use1 𝓛 (‵ (field_own (D κ).parts (L κ) 0 d.words) ⊛ ‵ (rest (D κ).parts (L κ) 0 vd)) (own-out 𝓛 (D κ).parts (L κ) 0 vd) $ split ! $
       -- [what words owns; what at owns; what d owns; the token]
       move ! (1 ∷ []) $ drop ! $ nothing ! $ owned ! usize (Is usize) (uint_Makes 𝓛 w64) d.at _ (refl, fits) $ fjoin ! $
       move ! (1 ∷ 0 ∷ []) $ fjoin ! $ move ! (2 ∷ 0 ∷ []) $ use2 𝓛 (raw P) asked $ frame ! $ done !)

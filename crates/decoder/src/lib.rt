@@ -1,5 +1,7 @@
 // Words read, or refused under one number with the place of the first fault. `bytes` makes words of bytes, `stages` has what a word's kind and place
 // settle, and here is the reader: start at `read`.
+#![tactic(auto)]
+
 ghost use Rattle.std.specs.Prelude.{◌≡◌, ◌-◌, ◌<◌, true, false, length};
 ghost use Rattle.model.specs.Reading.{fault_at, read_from, read_of};
 ghost use Rattle.decoder.specs.Stages.{open_at, Passed};
@@ -11,14 +13,14 @@ mod bytes;
 mod stages;
 
 // A plan file is accepted, or refused under a number at a place.
-#[derive(Drop)]
+#[derive(Clone, Copy)]
 pub enum Verdict {
     Accepted,
     Refused(u32, usize),
 }
 
 // One number, or a refusal.
-#[derive(Drop)]
+#[derive(Clone, Copy)]
 pub enum Figure {
     Number(usize),
     Refused(u32, usize),
@@ -80,7 +82,7 @@ fn verdict_at(words: &[u32], q: usize) -> Verdict
 
 // A reader: the lent words, and the place at which it stands. Its methods only take it apart; the functions above, on slice and number, do
 // the work (D83).
-#[derive(Drop)]
+#[derive(Clone, Copy)]
 struct Reader<'a> {
     words: &'a [u32],
     at: usize,

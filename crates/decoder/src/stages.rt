@@ -8,7 +8,7 @@ use model::{Layout, VALUES};
 
 // What a word's kind and place settle: the refusal that its value deserves, 0 for none, and the place up to which words of the same kind
 // follow that may hold any value from 0 to `most`. There the next stage begins.
-#[derive(Drop)]
+#[derive(Clone, Copy)]
 pub struct Stage {
     pub fault: u32,
     pub most: u32,

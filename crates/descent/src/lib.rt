@@ -1,6 +1,8 @@
 // The descent: from some plan of the least cost to the earliest of them. Unit by unit each start below the plan's is refuted under a limit one euro
 // above that cost, by a probe with the units before it as the plan has them; a plan that a probe finds takes the place of the one that was known.
 // Units count from 0, starts from 1. Start at `descend`.
+#![tactic(auto)]
+
 ghost use Rattle.std.specs.Prelude.{◌≡◌, true, false, ◌-◌, ◌<◌, ◌≤◌};
 ghost use Rattle.sums.specs.Table.{entry};
 ghost use Rattle.model.specs.Words.{problem_of};
@@ -18,7 +20,7 @@ use tables::TABLES;
 
 // A state, and how the descent came to it: the plan of the state is the earliest with the starts placed; or the next start is to be tried; or the
 // tries are spent.
-#[derive(Drop)]
+#[derive(Clone, Copy)]
 pub struct Descent {
     pub state: State,
     pub whole: bool,

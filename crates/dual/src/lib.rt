@@ -1,5 +1,7 @@
 // What a search knows at prices for units that are not out, before it places any: what overhauls cost from each start, and what weeks are worth with
 // nobody out; and which of the units placed are to blame where the lower bound comes to the limit. Weeks and units count from 0, starts from 1.
+#![tactic(auto)]
+
 ghost use Rattle.std.specs.Prelude.{◌≡◌, true, ◌+◌, ◌-◌, ◌*◌, ◌<◌, ◌≤◌, length};
 ghost use Rattle.sums.specs.Sum.{sum_to, added, transposed, shifted};
 ghost use Rattle.sums.specs.NumSet.{has};
@@ -24,7 +26,7 @@ pub const MOST_OVERHAUL: u64 = 268435456;
 
 // A place of a walk: the units of the set `placed` have these starts, no schedule with them costs less than the bound, all prices and OFF costs
 // included, and `unit` is to be placed next.
-#[derive(Drop)]
+#[derive(Clone, Copy)]
 pub struct Node {
     pub starts: [u8; 16],
     pub unit: usize,
@@ -235,7 +237,7 @@ pub fn fill_tables(
 // ---- who is to blame
 
 // Units whose starts keep the bound up, and the bound.
-#[derive(Drop)]
+#[derive(Clone, Copy)]
 struct BlameLeft {
     units: u32,
     sum: Euro,

@@ -18,7 +18,7 @@ use tables::{MOST_PRICE, TABLES};
 pub const ONE: u64 = 4096;
 
 // Which weeks of a unit have a price, and by what it is weighed.
-#[derive(Drop)]
+#[derive(Clone, Copy)]
 pub enum Pricing {
     Always,
     Sometimes,

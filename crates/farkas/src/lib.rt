@@ -3,6 +3,8 @@
 // are three fixed tables, and rounds in which prices are multiplied. Weeks and units count from 0, starts from 1.
 // `week` is what a week comes to, `unit` what an overhaul does, `fixed` has the tables, `rounds` the rounds, and here is the test at given prices:
 // start at `try_fixed`.
+#![tactic(auto)]
+
 ghost use Rattle.std.specs.Prelude.{◌≡◌, ◌*◌, ◌<◌, ◌≤◌};
 ghost use Rattle.sums.specs.Sum.{sum_to, row_sum};
 ghost use Rattle.model.specs.Words.{problem_of};
@@ -111,7 +113,7 @@ pub fn shows_none(
 }
 
 // What is known so far: whether the rounds were made, and whether it was shown that there is no schedule.
-#[derive(Drop)]
+#[derive(Clone, Copy)]
 pub struct Findings {
     pub tried: bool,
     pub shown: bool,

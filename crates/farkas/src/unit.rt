@@ -14,7 +14,7 @@ use tables::TABLES;
 pub const MOST_SPAN_PRICE: u64 = 218103808;
 
 // A start, and what the prices of the weeks of its overhaul come to.
-#[derive(Drop)]
+#[derive(Clone, Copy)]
 pub struct FreeStart {
     pub price: Euro,
     pub start: u32,

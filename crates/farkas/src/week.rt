@@ -32,7 +32,7 @@ const CAPS: usize = 51;
 const NEVER: usize = 68;
 
 // What the units decided so far leave: what the others have to give, the crews, who may not be out, who is out, and the prices of those who stay.
-#[derive(Drop)]
+#[derive(Clone, Copy)]
 struct FreeNode {
     week: usize,
     need: Kilo,
@@ -43,7 +43,7 @@ struct FreeNode {
 }
 
 // The least so far, a set of units out that comes to it, and the nodes that may still be looked into.
-#[derive(Drop)]
+#[derive(Clone, Copy)]
 pub struct FreeWeek {
     pub value: Euro,
     pub out: u32,
@@ -51,7 +51,7 @@ pub struct FreeWeek {
 }
 
 // What is seen of a node: that it is done with, and what is known then.
-#[derive(Drop)]
+#[derive(Clone, Copy)]
 struct Looked {
     done: bool,
     found: FreeWeek,
@@ -121,7 +121,7 @@ fn larger(a: u64, b: u64) -> u64
 }
 
 // The sums over the units up to one.
-#[derive(Drop)]
+#[derive(Clone, Copy)]
 struct SumsWith {
     prices: u64,
     saved: u64,

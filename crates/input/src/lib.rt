@@ -1,4 +1,6 @@
 // A program's input: a file's bytes up to and with the first word of kind 15, then the bytes of what is asked about the file.
+#![tactic(auto)]
+
 ghost use Rattle.std.specs.Prelude.{◌≤◌, ◌≡◌, length, take, drop};
 ghost use Rattle.model.specs.Bytes.{file_end};
 

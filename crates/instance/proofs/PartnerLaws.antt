@@ -2,7 +2,7 @@
 -- Assumes nothing.
 use Prim.Native.Nat.{ℕ, ◌≤◌}
 use mathlib.Core.Path.{◌≡◌, refl, sym, ◌∙◌, ap}
-use mathlib.Core.Bool.{Bool, false, ◌&&◌, ◌||◌, and_true, and_false, or-false, or_self}
+use mathlib.Core.Bool.{Bool, false, ◌&&◌, ◌||◌, and-true, and-false, or-false, or_self}
 use native.Mathlib.Decide.{ℕ_discrete}
 use lib.Dec.{eqb}
 use borrow.Author.Tests.{eq-eqb, ne_eqb}
@@ -26,16 +26,16 @@ first_joined : (a b j : ℕ) → (eqb a a && eqb b j || eqb a j && eqb b a) ≡ 
 first_joined a b j = go (ℕ_discrete b a)
   where
     go : Dec (b ≡ a) → (eqb a a && eqb b j || eqb a j && eqb b a) ≡ eqb j b
-    go (yes e) = rw e (simp (eq-eqb a a refl, and_true, or_self) (eqb_turned a j))
-    go (no n) = simp (eq-eqb a a refl, ne_eqb b a n, and_false, or-false) (eqb_turned b j)
+    go (yes e) = rw e (simp (eq-eqb a a refl, and-true, or_self) (eqb_turned a j))
+    go (no n) = simp (eq-eqb a a refl, ne_eqb b a n, and-false, or-false) (eqb_turned b j)
 
 -- i is the second alone: the partner is the first
 second_joined : (a b j : ℕ) → (a ≡ b → ⊥) → (eqb a b && eqb b j || eqb a j && eqb b b) ≡ eqb j a
-second_joined a b j n = simp (ne_eqb a b n, eq-eqb b b refl, and_true) (eqb_turned a j)
+second_joined a b j n = simp (ne_eqb a b n, eq-eqb b b refl, and-true) (eqb_turned a j)
 
 -- i is neither
 none_joined : (a b i j : ℕ) → (a ≡ i → ⊥) → (b ≡ i → ⊥) → (eqb a i && eqb b j || eqb a j && eqb b i) ≡ false
-none_joined a b i j n m = simp (ne_eqb a i n, ne_eqb b i m, and_false)
+none_joined a b i j n m = simp (ne_eqb a i n, ne_eqb b i m, and-false)
 
 -- ---- what pair n adds to the partners found so far
 

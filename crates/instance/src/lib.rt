@@ -1,5 +1,7 @@
 // A file's words seen as the problem they mean: where its sections begin, an accessor for each figure, and money and mass. A figure is an
 // equation with `problem_of` and says its range; tables and rows are parts of the words. Weeks, units and pairs count from 0.
+#![tactic(auto)]
+
 ghost use Rattle.std.specs.Prelude.{◌≡◌, ◌||◌, ℕ, ◌+◌, ◌-◌, ◌*◌, ◌<◌, ◌≤◌, ◌^◌, length};
 ghost use Rattle.sums.specs.NumSet.{has, only_in};
 ghost use Rattle.model.specs.Words.{VALUES, kind_at, value_at, layout_for, off_words, layout_of, problem_of};
@@ -12,11 +14,11 @@ ghost use Rattle.instance.specs.Tables.{maints_of, runnings_of, table_for, row_o
 use model::Layout;
 
 // Euros: what a cost is, and what sums over costs take and return.
-#[derive(Drop)]
+#[derive(Clone, Copy)]
 pub struct Euro(pub u64);
 
 // Kilograms of dry matter: what a demand or a capacity is, and what sums over outputs take and return.
-#[derive(Drop)]
+#[derive(Clone, Copy)]
 pub struct Kilo(pub u64);
 
 impl Euro {

@@ -1,5 +1,7 @@
 // The planning program's input as a run: a file's bytes up to and with its end word, then the bytes of its asks; and the text that is printed for it.
 // All that the program decides is decided here.
+#![tactic(auto)]
+
 ghost use Rattle.std.specs.Prelude.{◌≤◌, length, take, drop};
 ghost use Rattle.model.specs.Lines.{PlanPrinted};
 ghost use Rattle.report.specs.Lengths.{TEXT};
@@ -9,7 +11,7 @@ ghost use Rattle.intake.specs.Buffers.{RanInput, ShownInput};
 use decoder::{Figure, Verdict};
 
 // The input is turned away under a number at a place; or so many asks are answered, in blocks of so many units and weeks.
-#[derive(Drop)]
+#[derive(Clone, Copy)]
 enum Planned {
     Refused(u32, usize),
     Answered(usize, usize, usize),

@@ -1,5 +1,7 @@
 // Reads a plan file and a grid from standard input and prints the judgement in one line: the cost of a sound grid, the smallest number among
 // the formulas broken, or a refusal's number and place. It decides nothing of its own: `checker::judge_text` says what is printed.
+#![tactic(auto)]
+
 use libc::{STDIN_FILENO, STDOUT_FILENO};
 
 // Prints the line for an input.

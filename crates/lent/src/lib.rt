@@ -1,4 +1,6 @@
 // Lent words, whatever they held, set to 0.
+#![tactic(auto)]
+
 ghost use Rattle.std.specs.Prelude.{◌≡◌, length, replicate};
 
 // Sets every word to 0.

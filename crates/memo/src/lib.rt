@@ -1,6 +1,8 @@
 // A memo in lent words: entries of two words, a key and what is kept under it. What weeks' cheapest runs cost is kept here under keys made of the
 // week and the units out; the keys from OTHERS on are for another's use. There may be any number of words, even none; an entry that is overwritten is
 // only computed again. Weeks count from 0.
+#![tactic(auto)]
+
 ghost use Rattle.std.specs.Prelude.{◌≡◌, ◌+◌, ◌*◌, ◌<◌, ◌≤◌, length, replicate};
 ghost use Rattle.sums.specs.NumSet.{has};
 ghost use Rattle.model.specs.Words.{problem_of};
@@ -46,7 +48,7 @@ fn slot(key: u32, entries: usize) -> usize
 }
 
 // What the memo has under a key, if it has the key.
-#[derive(Drop)]
+#[derive(Clone, Copy)]
 pub enum Stored {
     Nothing,
     Word(u32),

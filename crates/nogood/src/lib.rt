@@ -1,5 +1,7 @@
 // The table of nogoods (document 01: conflicts) in lent words: dead ends noted, the end of a walk noted, a nogood recalled that a walk's starts meet.
 // Units count from 0, in words from 1; starts count from 1.
+#![tactic(auto)]
+
 ghost use Rattle.std.specs.Prelude.{◌≡◌, ◌+◌, ◌*◌, ◌-◌, ◌<◌, ◌≤◌, length, replicate};
 ghost use Rattle.sums.specs.Sum.{sum_to, counts_one};
 ghost use Rattle.sums.specs.NumSet.{has, only_in};
@@ -11,7 +13,7 @@ ghost use Rattle.nogood.specs.Noting.{choice_of, choices_of, nogood_for, noted_u
 ghost use Rattle.nogood.specs.Recall.{CHOICE_RADIX, UnitMet, Matched, Recalled};
 
 // No nogood that was looked at is met; or one is, by the starts of these units.
-#[derive(Drop)]
+#[derive(Clone, Copy)]
 pub enum Scan {
     Miss,
     Cut(u32),

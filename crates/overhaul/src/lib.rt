@@ -1,5 +1,7 @@
 // A unit's overhaul: the weeks in which it may start, and what it costs in maintenance from each; and what the unit costs OFF over the season.
 // Weeks and units count from 0, starts from 1.
+#![tactic(auto)]
+
 ghost use Rattle.std.specs.Prelude.{◌≡◌, true, ◌<◌, ◌≤◌};
 ghost use Rattle.model.specs.Words.{problem_of};
 ghost use Rattle.model.specs.Domain.{permitted};
@@ -12,7 +14,7 @@ use instance::Euro;
 use model::Layout;
 
 // The permitted starts of a unit: from the first to the last; none where the last lies before the first.
-#[derive(Drop)]
+#[derive(Clone, Copy)]
 pub struct Starts {
     pub first: usize,
     pub last: usize,

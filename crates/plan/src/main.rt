@@ -1,5 +1,7 @@
 // Reads a plan file and asks from standard input and prints what each ask is told, a line each, or a refusal's number and place in one line. It decides
 // nothing of its own: `intake::plan_output` says what is printed.
+#![tactic(auto)]
+
 use libc::{STDIN_FILENO, STDOUT_FILENO};
 use report::TEXT;
 

@@ -1,5 +1,7 @@
 // A run of asks on any words: refused under the listed causes, in their order, or every ask answered in the lent words, in turn, with the table of
 // nogoods and what they settle carried from each to the next.
+#![tactic(auto)]
+
 ghost use Rattle.std.specs.Prelude.{◌≡◌, ◌+◌, ◌<◌, max, length, replicate};
 ghost use Rattle.model.specs.Words.{problem_of};
 ghost use Rattle.model.specs.Asks.{Answered, Ran};
@@ -24,7 +26,7 @@ use tables::TABLES;
 
 // What the asks so far have settled: no sound schedule costs less than `least`, and where a plan is known it is the earliest at that cost. Beside it
 // the words of the table in use.
-#[derive(Drop)]
+#[derive(Clone, Copy)]
 pub struct Carry {
     pub plan: Reply,
     pub least: Euro,
@@ -33,7 +35,7 @@ pub struct Carry {
 }
 
 // The turn of an ask: its number, from 0, what the asks before it have settled, and what is known of the free plant.
-#[derive(Drop)]
+#[derive(Clone, Copy)]
 struct AskTurn {
     ask: usize,
     carry: Carry,
@@ -194,7 +196,7 @@ fn put_turn(l: Layout, asks: &[u32], k: usize, m: Carry, told: Reply, answers: &
 }
 
 // What is carried from an ask to the next, and what is known of the free plant then.
-#[derive(Drop)]
+#[derive(Clone, Copy)]
 struct Onward {
     carry: Carry,
     free: Findings,
@@ -293,7 +295,7 @@ fn tables_of(
 }
 
 // What a run has before its first ask: the table of its walks, and what the fixed prices show of the free plant.
-#[derive(Drop)]
+#[derive(Clone, Copy)]
 struct Prepared {
     tables: [u32; TABLES],
     free: Findings,

@@ -3,6 +3,8 @@
 // bound, these are advice. In the field this is the subgradient method with momentum. Weeks and units count from 0, starts from 1.
 // `wants` is what units and weeks want at prices, `effort` what may be spent on a week, `momentum` has the pushes, `step` moves prices, and here are the
 // rounds: start at `find_prices`.
+#![tactic(auto)]
+
 ghost use Rattle.std.specs.Prelude.{◌<◌};
 ghost use Rattle.sums.specs.Table.{AtMost};
 ghost use Rattle.model.specs.Words.{problem_of};

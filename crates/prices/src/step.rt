@@ -17,7 +17,7 @@ const STEP_SCALE: u64 = 65536;
 
 // How far the rounds have come: the best bound so far and that of the prices at hand, the reach of steps, and the rounds since the last gain.
 // Bounds are plain numbers from here on: no sum is made of them, but lengths of steps.
-#[derive(Drop)]
+#[derive(Clone, Copy)]
 pub struct Progress {
     pub best: u64,
     pub at: u64,

@@ -25,7 +25,7 @@ pub const HARD_WANTS: usize = 136;
 pub const NODES_USED: usize = 188;
 
 // A start of a unit, and what it costs, prices and OFF costs included.
-#[derive(Drop)]
+#[derive(Clone, Copy)]
 struct PricedStart {
     cost: Euro,
     start: usize,

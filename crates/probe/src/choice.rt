@@ -175,7 +175,7 @@ fn open_starts(
 // ---- the unit with the fewest
 
 // A unit with the number of its open starts and the length of its overhaul.
-#[derive(Drop)]
+#[derive(Clone, Copy)]
 struct Narrow {
     unit: usize,
     open: usize,

@@ -2,6 +2,8 @@
 // left below its limit with the starts of the units placed, or a plan with them at the limit that it leaves; what it learns goes into the table.
 // Units count from 0, starts from 1.
 // `choice` names the next unit, and here is the walk of a probe: start at `place`.
+#![tactic(auto)]
+
 ghost use Rattle.std.specs.Prelude.{◌<◌, ◌≤◌, length};
 ghost use Rattle.model.specs.Nogood.{MOST_LIMIT};
 ghost use Rattle.model.specs.Words.{problem_of};
@@ -23,7 +25,7 @@ mod choice;
 
 // A visit of a node: where the probe stands, the state in which it comes there, the units placed, four bits each and the last lowest, and whether the
 // probe ends at its first plan.
-#[derive(Drop)]
+#[derive(Clone, Copy)]
 pub struct Visit {
     pub node: Node,
     pub state: State,
@@ -81,7 +83,7 @@ fn note_blame(
 // ---- a start judged
 
 // A start that was judged, and where the probe goes on: the try is counted, and where the start holds one unit more is placed at the bound with it.
-#[derive(Drop)]
+#[derive(Clone, Copy)]
 pub struct Tried {
     pub trial: Trial,
     pub at: Visit,

@@ -1,5 +1,7 @@
 // What weeks and overhauls of a file cost, asked one by one, of any words. Weeks, units and starts count from 1 here, as in the file; what the
 // file does not have, a week past the last or a start that is not permitted, has no quote.
+#![tactic(auto)]
+
 ghost use Rattle.std.specs.Prelude.{◌≡◌, ◌<◌, ◌≤◌, length};
 ghost use Rattle.model.specs.Verdict.{accepted};
 ghost use Rattle.model.specs.Reading.{read_of};
@@ -16,7 +18,7 @@ use sets::SETS;
 
 // A number and its cost in euros: a week's cheapest run, or the start that was asked about, so that one quote serves both; nothing, where there is
 // no such thing; or the file's refusal.
-#[derive(Drop)]
+#[derive(Clone, Copy)]
 pub enum Quote {
     Nothing,
     Given(u32, u32),

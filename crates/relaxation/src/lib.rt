@@ -3,6 +3,8 @@
 // prices left cannot pay. Where it has looked at too many sets it is given up, and the search over three states for each unit gives a lower bound.
 // Weeks and units count from 0. `start` has what is known before the choice, `asked`
 // what walks ask for.
+#![tactic(auto)]
+
 ghost use Rattle.std.specs.Prelude.{◌≡◌, true, false, ◌+◌, ◌<◌, ◌≤◌, get_or};
 ghost use Rattle.sums.specs.NumSet.{has};
 ghost use Rattle.model.specs.Words.{problem_of};
@@ -24,14 +26,14 @@ mod asked;
 mod start;
 
 // How much may be spent on a week: how many sets may be looked at, and how many nodes of the search over three states.
-#[derive(Drop)]
+#[derive(Clone, Copy)]
 pub struct Effort {
     pub sets: u32,
     pub nodes: u64,
 }
 
 // What a week is worth, a set of units out that is worth so much, the sets that may still be looked at, and the nodes that were needed.
-#[derive(Drop)]
+#[derive(Clone, Copy)]
 pub struct WeekChoice {
     pub value: Euro,
     pub out: u32,
@@ -41,7 +43,7 @@ pub struct WeekChoice {
 
 // A set of units out in a week, from which the choice of further ones goes on: units that need no try, how many more crews allow, what the prices of
 // the units not out come to, and that with the cheapest run.
-#[derive(Drop)]
+#[derive(Clone, Copy)]
 struct WeekNode {
     week: usize,
     out: u32,

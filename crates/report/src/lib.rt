@@ -1,4 +1,6 @@
 // The text that the programs print, written into lent bytes: a line an ask, by the words of its block, or one line for a refusal or a judgement.
+#![tactic(auto)]
+
 ghost use Rattle.std.specs.Prelude.{◌≡◌, [], ◌∷◌, ◌+◌, ◌*◌, ◌%◌, ◌<◌, ◌≤◌, length};
 ghost use Rattle.model.specs.Lines.{digits_to, number_text, words_text, schedule_text, mark_text, best_text, block_text, line_text, lines_text};
 ghost use Rattle.model.specs.Lines.{refusal_text, sound_text, rule_text};

@@ -2,6 +2,8 @@
 // file's words, a grid with a byte for each week and unit, and the file's layout. Weeks, units and pairs count from 0.
 // `weekly` has the formulas that add up the units of a week, `cells` those that look at one unit in one week, `spans` those that look at the weeks
 // from the first to the last in which a unit is in maintenance, and here all are asked in turn: start at `broken`.
+#![tactic(auto)]
+
 ghost use Rattle.std.specs.Prelude.{◌≡◌, ◌*◌, ◌<◌, ◌≤◌, length};
 ghost use Rattle.model.specs.Words.{problem_of};
 ghost use Rattle.model.specs.Grid.{cell};

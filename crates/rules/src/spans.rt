@@ -134,7 +134,7 @@ fn pair_apart(words: &[u32], grid: &[u8], l: Layout, t: usize, n: usize) -> bool
 }
 
 // The weeks between which a unit is in maintenance.
-#[derive(Drop)]
+#[derive(Clone, Copy)]
 struct Span {
     unit: usize,
     first: usize,

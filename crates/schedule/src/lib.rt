@@ -1,5 +1,7 @@
 // A schedule laid out as a grid: MAINT from each unit's start for its duration, ON for the units of a week's run, OFF elsewhere. A schedule is
 // two lists of words, a start for each unit, from 1, and a run for each week; a number past the end of a list is 0. Weeks and units count from 0.
+#![tactic(auto)]
+
 ghost use Rattle.std.specs.Prelude.{◌≡◌, ◌*◌, ◌<◌, ◌≤◌, length, get_or};
 ghost use Rattle.model.specs.Words.{problem_of};
 ghost use Rattle.model.specs.Grid.{state_at};

@@ -18,7 +18,7 @@ use tables::TABLES;
 // ---- how a probe ended
 
 // A probe ended unspent and with a plan; or unspent and without.
-#[derive(Drop)]
+#[derive(Clone, Copy)]
 pub struct Outcome {
     pub plan: bool,
     pub none: bool,
@@ -133,7 +133,7 @@ fn least_cost(words: &[u32], l: Layout, tables: &[u32; TABLES], limit: Euro) -> 
 }
 
 // How a probe at a gap ended: its state, whether with a plan, and the tries that are left then.
-#[derive(Drop)]
+#[derive(Clone, Copy)]
 struct GapEnd {
     state: State,
     plan: bool,
@@ -219,7 +219,7 @@ fn tries_open(left: u32, known: Findings) -> u32
 
 // Where the probes at gaps stand: the state of the last, the root's bound, the room for gaps, the next gap, the tries left, whether the last found a
 // plan, and what is known of the free plant. After a plan no gap is left.
-#[derive(Drop)]
+#[derive(Clone, Copy)]
 struct GapTurn {
     state: State,
     root: Euro,
@@ -346,7 +346,7 @@ fn probe_gap(
 
 // Where the probes at gaps have come: to the state of one that has found the least cost and a plan; or, all of them in vain, to the state of the next,
 // under the ask's own limit and with the tries that are left. Beside it what is known of the free plant.
-#[derive(Drop)]
+#[derive(Clone, Copy)]
 pub struct Probes {
     pub state: State,
     pub plan: bool,

@@ -3,6 +3,8 @@
 // the bound at the prices, since most plans cost little more; they take the units in any order, and a descent leads from their plan to the earliest.
 // The walk in the paper's order comes last, where the tries of these are spent. Units count from 0, starts from 1.
 // `gaps` has the probes at rising ceilings, `probes` what follows them, and here is the ask with its reply: start at `solve`.
+#![tactic(auto)]
+
 ghost use Rattle.std.specs.Prelude.{◌≡◌, true};
 ghost use Rattle.sums.specs.Table.{entry};
 ghost use Rattle.model.specs.Words.{problem_of};
@@ -25,7 +27,7 @@ mod gaps;
 mod probes;
 
 // An ask: its ceiling, its budget, and what is known of the free plant.
-#[derive(Drop)]
+#[derive(Clone, Copy)]
 pub struct Ask {
     pub ceiling: u32,
     pub budget: u32,
@@ -33,7 +35,7 @@ pub struct Ask {
 }
 
 // How an ask ended: its last state, with the runs of the best schedule.
-#[derive(Drop)]
+#[derive(Clone, Copy)]
 pub struct Reply {
     pub state: State,
     pub walked: Walked,
@@ -41,7 +43,7 @@ pub struct Reply {
 }
 
 // An ask's reply, and what is known of the free plant then.
-#[derive(Drop)]
+#[derive(Clone, Copy)]
 pub struct Solved {
     pub reply: Reply,
     pub free: Findings,

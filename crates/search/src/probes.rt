@@ -148,7 +148,7 @@ fn solve_at_ceiling(
 }
 
 // How the walks of an ask ended, and what is known of the free plant then.
-#[derive(Drop)]
+#[derive(Clone, Copy)]
 pub struct Searched {
     pub step: Step,
     pub free: Findings,

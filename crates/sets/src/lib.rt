@@ -1,4 +1,6 @@
 // Sets of units as the bits of a word: unit i is in the set where bit i is 1.
+#![tactic(auto)]
+
 ghost use Rattle.std.specs.Prelude.{◌≡◌, ◌&&◌, ◌||◌, ℕ, ◌<◌};
 ghost use Rattle.sums.specs.NumSet.{has, with, without};
 

@@ -1,5 +1,7 @@
 // The shape of an answer's block for u units and w weeks (document 01, "A run of asks"): a status, a cost, a start for each unit, a run number for
 // each week, a start of the mark for each unit. Places count from the block's first word.
+#![tactic(auto)]
+
 ghost use Rattle.std.specs.Prelude.{◌≤◌, ◌≡◌};
 ghost use Rattle.shape.specs.Shape.{runs_at, mark_at, block_size};
 

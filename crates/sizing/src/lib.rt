@@ -1,4 +1,6 @@
 // The sizing figure of a file, a bound on the number of places of its walks (document 01, "A run of asks"). Start at `sizing`.
+#![tactic(auto)]
+
 ghost use Rattle.std.specs.Prelude.{◌≤◌, ◌<◌, min, ◌≡◌};
 ghost use Rattle.sums.specs.Sum.{sum_to};
 ghost use Rattle.model.specs.Words.{VALUES};

@@ -1,5 +1,7 @@
 // The state of a walk and its small changes: a try counted, the mark set, a better schedule found; what the walk notes in the table of nogoods and
 // what it looks up there. Units count from 0, starts from 1.
+#![tactic(auto)]
+
 ghost use Rattle.std.specs.Prelude.{◌≡◌, ◌+◌, ◌<◌, ◌≤◌, length};
 ghost use Rattle.sums.specs.NumSet.{has, with};
 ghost use Rattle.model.specs.Nogood.{MOST_LIMIT};
@@ -13,7 +15,7 @@ use nogood::{CHOICE_RADIX, Scan};
 // ends at it ends, the limit that a schedule has to stay below, the words of the table in use, the tries made and the most that may be made, and
 // whether there is a best. The fields stand in the order of their sizes: a bool before a wider field leaves 7 bytes between them, and every try
 // copies those too, in two pieces.
-#[derive(Drop)]
+#[derive(Clone, Copy)]
 pub struct State {
     pub best: [u8; 16],
     pub mark: [u8; 16],
@@ -26,14 +28,14 @@ pub struct State {
 }
 
 // No schedule is left with the starts of these units; or the budget is spent, at a mark of so many starts.
-#[derive(Drop)]
+#[derive(Clone, Copy)]
 pub enum Walked {
     Dead(u32),
     Spent(usize),
 }
 
 // A state, and how the walk came to it.
-#[derive(Drop)]
+#[derive(Clone, Copy)]
 pub struct Step {
     pub state: State,
     pub walked: Walked,

@@ -3,7 +3,7 @@
 use Prim.Native.Nat.{ℕ, zero, suc, ◌+◌, ◌-◌, ◌*◌, ◌≤◌, ◌<◌}
 use mathlib.Core.Path.{◌≡◌, refl}
 use mathlib.Core.Bool.{Bool, true, false}
-use native.Mathlib.Nat.{mul-le-mul_left, mul_add}
+use native.Mathlib.Nat.{mul-le-mul_left, mul-add}
 use native.Mathlib.Omega.{arith}
 use Rattle.sums.specs.Logic.{if}
 use Rattle.sums.specs.Sum.{sum_to}
@@ -62,8 +62,8 @@ rate_sum p rate price s (suc k) m = omega (
   arith,
   rate_sum p rate price s k (λ i l. m i (omega arith)),
   rate_line p rate price k (s k) (m k (omega arith)),
-  mul_add rate (sum_to k (gives p s)) (given p k (s k)),
-  mul_add price (sum_to k (goes s)) (gone (s k)),
+  mul-add rate (sum_to k (gives p s)) (given p k (s k)),
+  mul-add price (sum_to k (goes s)) (gone (s k)),
 )
 
 pub flat_sum : (p : Places) (price : ℕ) (s : PlaceStates) (k : ℕ) → ((i : ℕ) → i < k → s i ≡ Out → p.shut i ≡ false)
@@ -74,7 +74,7 @@ flat_sum p price s (suc k) m = omega (
   arith,
   flat_sum p price s k (λ i l. m i (omega arith)),
   flat_line p price k (s k) (m k (omega arith)),
-  mul_add price (sum_to k (goes s)) (gone (s k)),
+  mul-add price (sum_to k (goes s)) (gone (s k)),
 )
 
 -- ---- lower bounds at a rate and a price

@@ -3,6 +3,8 @@
 // knapsack cover, with a rate for what is needed and a price for each that is OUT.
 // `places` makes the table of costs, `rating` finds rates and prices, `totals` makes the table of sums, `bounds` has the lower bounds of a node, `nodes`
 // what comes of a place, `walk` the search; here is the week: start at `week_least`.
+#![tactic(auto)]
+
 ghost use Rattle.std.specs.Prelude.{◌≡◌, ◌⊎◌, ◌+◌, ◌-◌, ◌*◌, ◌<◌, ◌≤◌};
 ghost use Rattle.sums.specs.NumSet.{has};
 ghost use Rattle.model.specs.Words.{problem_of};
@@ -29,7 +31,7 @@ mod walk;
 pub const SCALE: u64 = 4096;
 
 // The state of a place.
-#[derive(Drop)]
+#[derive(Clone, Copy)]
 pub enum PlaceState {
     On,
     Off,
@@ -37,7 +39,7 @@ pub enum PlaceState {
 }
 
 // The order in which a place takes its states.
-#[derive(Drop)]
+#[derive(Clone, Copy)]
 pub struct StateOrder {
     pub first: PlaceState,
     pub second: PlaceState,
@@ -46,7 +48,7 @@ pub struct StateOrder {
 
 // What bounds are taken at: what a kilogram is worth, and what a place that is OUT is charged; the same where places are counted and not weighed; and
 // the places that are never OUT.
-#[derive(Drop)]
+#[derive(Clone, Copy)]
 pub struct Advice {
     pub rate: u64,
     pub price: u64,
@@ -56,7 +58,7 @@ pub struct Advice {
 }
 
 // What the places decided so far leave: the need, the crews, the places that may not be OUT, what they cost, and those of them that are OUT.
-#[derive(Drop)]
+#[derive(Clone, Copy)]
 pub struct StateNode {
     pub need: u64,
     pub crews: u64,
@@ -66,14 +68,14 @@ pub struct StateNode {
 }
 
 // What comes of a place in a state: a node, where it is worth a look.
-#[derive(Drop)]
+#[derive(Clone, Copy)]
 pub struct StateChild {
     pub worth: bool,
     pub node: StateNode,
 }
 
 // The least so far, the nodes that may still be looked into, and the places OUT in the best choice met.
-#[derive(Drop)]
+#[derive(Clone, Copy)]
 pub struct StateFound {
     pub best: u64,
     pub fuel: u64,
@@ -81,14 +83,14 @@ pub struct StateFound {
 }
 
 // What is seen of a node: that it is done with, and what is known then.
-#[derive(Drop)]
+#[derive(Clone, Copy)]
 pub struct NodeLooked {
     pub done: bool,
     pub found: StateFound,
 }
 
 // A week with some units out: the units that need no try, how many more crews allow, what it is worth at most, and the nodes to look into.
-#[derive(Drop)]
+#[derive(Clone, Copy)]
 pub struct WeekTask {
     pub week: usize,
     pub out: u32,
@@ -99,7 +101,7 @@ pub struct WeekTask {
 }
 
 // What a week is worth at least, the units out in the best choice met, which are advice, and the nodes that were not needed.
-#[derive(Drop)]
+#[derive(Clone, Copy)]
 pub struct WeekFloor {
     pub value: Euro,
     pub out: u32,

@@ -12,7 +12,7 @@ use crate::{Advice, bounds, totals};
 const MOST_COST: u64 = 34359738368;
 
 // A rate and a price.
-#[derive(Drop)]
+#[derive(Clone, Copy)]
 struct RatePair {
     rate: u64,
     price: u64,

@@ -1,6 +1,8 @@
 // What a walk reads and never changes, in one table of words behind one reference: prices for units that are not out, the partners of each unit in
 // excluded pairs, what each unit costs OFF, what overhauls cost from each start, what weeks are worth with nobody out, all OFF costs and prices
 // together, and the weeks that are hard to choose units out for, which is advice. Each part is reached by an accessor of its own name. Weeks and units count from 0, starts from 1.
+#![tactic(auto)]
+
 ghost use Rattle.std.specs.Prelude.{◌≡◌, ◌+◌, ◌*◌, ◌<◌, ◌≤◌};
 ghost use Rattle.sums.specs.Sum.{sum_to};
 ghost use Rattle.model.specs.Words.{problem_of};

@@ -1,5 +1,7 @@
 // The walk below a node: the starts of a unit tried in turn, each judged, and where one holds the next unit placed.
 // Units count from 0, starts from 1.
+#![tactic(auto)]
+
 ghost use Rattle.std.specs.Prelude.{◌<◌, ◌≤◌};
 ghost use Rattle.model.specs.Words.{problem_of};
 ghost use Rattle.tables.specs.Tables.{price_in};
@@ -16,7 +18,7 @@ use state::{State, Step, Walked};
 use tables::TABLES;
 
 // A visit of a node: where the walk stands, and the state in which it comes there.
-#[derive(Drop)]
+#[derive(Clone, Copy)]
 pub struct Visit {
     pub node: Node,
     pub state: State,
@@ -25,7 +27,7 @@ pub struct Visit {
 // ---- a start judged
 
 // A start that was judged, and where the walk goes on: the try is counted, and where the start holds one unit more is placed at the bound with it.
-#[derive(Drop)]
+#[derive(Clone, Copy)]
 struct Tried {
     trial: Trial,
     at: Visit,
@@ -203,7 +205,7 @@ fn with_start(node: Node, v: usize, st: State) -> Visit
 }
 
 // Whether a unit's starts are left after one of them, and else the units to blame so far.
-#[derive(Drop)]
+#[derive(Clone, Copy)]
 pub struct Turn {
     pub left: bool,
     pub blame: u32,

@@ -1,4 +1,6 @@
 // A word's kind and value, and the arithmetic of small numbers that every crate above shares.
+#![tactic(auto)]
+
 ghost use Rattle.std.specs.Prelude.{◌≡◌, ◌-◌, ◌<◌, min};
 ghost use Rattle.model.specs.Words.{VALUES, kind_of, value_of, value_at};
 
