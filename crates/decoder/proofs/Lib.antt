@@ -4,7 +4,5 @@ pub mod ArmLaws
 pub mod StageLaws
 -- the reader's steps
 pub mod StepLaws
--- what a reader owns
-pub mod ReaderLaws
 -- bytes to words
 pub mod BytesLaws

@@ -1,0 +1,21 @@
+use Rattle.std.proofs.Common.{◌-◌, refl, rules}
+use Rattle.rules.proofs.PairLaws.{pairs_start, weeks_start, weeks_next, pairs_next, pair_breaks, pairs_ended}
+use Rattle.rules.proofs.spans.keeps8.Goals as goal
+
+pub apart-init : goal.apart-init
+apart-init c = (refl, search rules, search rules, search rules, search pairs_start)
+
+pub loop-t-init : goal.loop-t-init
+loop-t-init c = (search rules, search rules, search rules, search rules, search weeks_start)
+
+pub loop-t-preserved : goal.loop-t-preserved
+loop-t-preserved c = (search rules, search rules, search rules, search rules, search weeks_next)
+
+pub apart-preserved : goal.apart-preserved
+apart-preserved c = (search rules, search rules, search rules, search rules, search pairs_next)
+
+pub returns-after-apart : goal.returns-after-apart
+returns-after-apart c = search pairs_ended
+
+pub returns-then-not-pair_apart : goal.returns-then-not-pair_apart
+returns-then-not-pair_apart c = search pair_breaks
