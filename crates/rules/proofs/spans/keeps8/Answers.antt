@@ -1,4 +1,4 @@
-use Rattle.std.proofs.Common.{◌-◌, refl, rules}
+use Rattle.std.proofs.Common.{◌≡◌, true, not, refl, ap, rules}
 use Rattle.rules.proofs.PairLaws.{pairs_start, weeks_start, weeks_next, pairs_next, pair_breaks, pairs_ended}
 use Rattle.rules.proofs.spans.keeps8.Goals as goal
 
@@ -18,4 +18,4 @@ pub returns-after-apart : goal.returns-after-apart
 returns-after-apart c = search pairs_ended
 
 pub returns-then-not-pair_apart : goal.returns-then-not-pair_apart
-returns-then-not-pair_apart c = search pair_breaks
+returns-then-not-pair_apart c = let breach : not c.pair_apart.result ≡ true = ap not c.if-not-pair_apart.true in search pair_breaks fits 20000

@@ -1,0 +1,14 @@
+use Rattle.std.proofs.Common.{refl, ◌-◌, rules}
+use Rattle.states.proofs.RangeLaws.{count_under}
+use Rattle.states.specs.SearchTables.{MOST_COST}
+use Rattle.sums.proofs.TableLaws.{at_most_start, at_most_put}
+use Rattle.states.proofs.rating.all_saved.Goals as goal
+
+pub loop-i-init : goal.loop-i-init
+loop-i-init c = (search rules, refl, at_most_start 16 0 MOST_COST (search rules))
+
+pub lost_of-requires : goal.lost_of-requires
+lost_of-requires c = (search rules, search count_under)
+
+pub loop-i-preserved : goal.loop-i-preserved
+loop-i-preserved c = (search rules, search rules, search at_most_put)
