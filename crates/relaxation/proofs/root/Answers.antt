@@ -1,0 +1,10 @@
+-- `relaxation::root` meets its contract: each field by the function that made it.
+-- Assumes nothing.
+use Rattle.relaxation.proofs.NodeLaws.{beginning_small, begun_of}
+use Rattle.relaxation.proofs.root.Goals as goal
+
+pub plus-requires : goal.plus-requires
+plus-requires c = search beginning_small
+
+pub returns : goal.returns
+returns c = search begun_of
