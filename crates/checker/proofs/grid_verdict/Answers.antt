@@ -1,0 +1,10 @@
+-- `checker::grid_verdict` meets its contract: the length first, then the bytes.
+-- Assumes nothing.
+use Rattle.checker.proofs.JudgingLaws.{length_fault, length_right}
+use Rattle.checker.proofs.grid_verdict.Goals as goal
+
+pub returns-then-grid-l : goal.returns-then-grid-l
+returns-then-grid-l c = search length_fault
+
+pub returns : goal.returns
+returns c = search length_right

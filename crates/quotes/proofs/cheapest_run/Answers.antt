@@ -1,0 +1,13 @@
+-- `quotes::cheapest_run` meets its contract: the file's refusal, or what is said of an accepted file.
+-- Assumes nothing.
+use Rattle.quotes.proofs.QuoteLaws.{quote_refused, quote_filed, quote_said}
+use Rattle.quotes.proofs.cheapest_run.Goals as goal
+
+pub filed_run-requires : goal.filed_run-requires
+filed_run-requires c = search quote_filed
+
+pub returns-in-Refused : goal.returns-in-Refused
+returns-in-Refused c = search quote_refused
+
+pub returns-in-Accepted : goal.returns-in-Accepted
+returns-in-Accepted c = search quote_said
