@@ -2,4 +2,3 @@
 // are about a file, and the figures marked P in document 01; specs/General, Ties, Warm, Worked, Refusals and Encodings have the others. A row is a
 // test that is computed, and laws that carry it to every schedule.
 #![tactic(auto)]
-
