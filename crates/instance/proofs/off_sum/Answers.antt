@@ -1,4 +1,4 @@
-use Rattle.std.proofs.Common.{◌-◌, rules}
+use Rattle.std.proofs.Common.{rules}
 use Rattle.sums.proofs.LoopLaws.{sum_start, sum_next}
 use Rattle.instance.proofs.RunLaws.{off_ended}
 use Rattle.instance.proofs.off_sum.Goals as goal

@@ -1,4 +1,4 @@
-use Rattle.std.proofs.Common.{◌-◌, rules}
+use Rattle.std.proofs.Common.{rules}
 use Rattle.sums.proofs.LoopLaws.{gathered_start, gathered_next}
 use Rattle.instance.proofs.PartnerLaws.{partners_found}
 use Rattle.instance.proofs.partners.Goals as goal

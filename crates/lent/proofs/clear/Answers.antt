@@ -1,4 +1,4 @@
-use Rattle.std.proofs.Common.{◌-◌, rules}
+use Rattle.std.proofs.Common.{rules}
 use Rattle.lent.proofs.EmptyLaws.{empty_start, empty_next, empty_ended}
 use Rattle.lent.proofs.clear.Goals as goal
 
