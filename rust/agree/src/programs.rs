@@ -13,7 +13,12 @@ pub fn printed(name: &str, input: &[u8]) -> Result<String, String> {
         .stdin(Stdio::piped())
         .stdout(Stdio::piped())
         .spawn()
-        .unwrap_or_else(|error| panic!("`rt run` in crates/{name} writes {}: {error}", program.display()));
+        .unwrap_or_else(|error| {
+            panic!(
+                "`rt run` in crates/{name} writes {}: {error}",
+                program.display()
+            )
+        });
     let mut stdin = child.stdin.take().expect("standard input is a pipe");
     if let Err(error) = stdin.write_all(input) {
         assert_eq!(error.kind(), ErrorKind::BrokenPipe, "{error}");
