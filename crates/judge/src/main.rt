@@ -2,18 +2,36 @@
 // the formulas broken, or a refusal's number and place. It decides nothing of its own: `checker::judge_text` says what is printed.
 #![tactic(auto)]
 
-use libc::{STDIN_FILENO, STDOUT_FILENO};
+ghost use Rattle.std.specs.Prelude.{◌≤◌, length, IfOk};
+
+use std::io;
+use std::io::{Print, Read, Stdin};
+
+// Reads until the buffer is full or the input ends: how many bytes stand at its front.
+fn read_full(input: &mut Stdin, bytes: &mut [u8]) -> io::Result<usize>
+    ensures { IfOk result (λ n. n ≤ length bytes.new) }
+{
+    let mut done = 0;
+    while done < bytes.len() {
+        let n = input.read(&mut bytes[done..])?;
+        if n == 0 {
+            break;
+        }
+        done += n;
+    }
+    Ok(done)
+}
 
 // Prints the line for an input.
-fn answer(bytes: &[u8]) {
+fn answer(rt: &HostRuntime, bytes: &[u8]) -> io::Result<()> {
     let mut text = [0u8; 50];
     let n = checker::judge_text(bytes, &mut text);
-    io::write_all(STDOUT_FILENO, &text[..n]);
+    rt.write_all(&text[..n])
 }
 
 // One byte more than is allowed shows an input that is too long.
-fn main() {
+fn main(rt: HostRuntime) -> io::Result<()> {
     let mut bytes = [0u8; 32769];
-    let n = io::read_full(STDIN_FILENO, &mut bytes);
-    answer(&bytes[..n]);
+    let n = read_full(&mut rt.stdin(), &mut bytes)?;
+    answer(&rt, &bytes[..n])
 }

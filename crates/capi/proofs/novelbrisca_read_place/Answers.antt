@@ -1,0 +1,7 @@
+-- `capi::novelbrisca_read_place` meets its contract: the verdict of `decoder::read`.
+-- Assumes nothing.
+use Rattle.codes.proofs.CodeLaws.{codes}
+use Rattle.capi.proofs.novelbrisca_read_place.Goals as goal
+
+pub returns : goal.returns
+returns c = search codes
