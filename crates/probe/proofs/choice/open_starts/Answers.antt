@@ -1,0 +1,8 @@
+use Rattle.std.proofs.Common.{◌-◌, rules}
+use Rattle.probe.proofs.choice.open_starts.Goals as goal
+
+pub loop-t-init : goal.loop-t-init
+loop-t-init c = (search rules, search rules, search rules)
+
+pub loop-t-preserved : goal.loop-t-preserved
+loop-t-preserved c = (search rules, search rules, search rules)
