@@ -120,12 +120,12 @@ module _ (m : Carry) (c : ℕ) (r : Reply) where
   -- a plan
   pub remembered_plan : (b : ℕ) → r.walked ≡ Dead b → r.state.found ≡ true
       → Remembered m c r (record { plan = r; least = r.state.limit; used = r.state.used; known = true })
-  remembered_plan b e f = record { words = refl; keeps = kept _ true (Dead b) f e (λ p. (refl, refl, refl)) }
+  remembered_plan b e f = record { words = refl; keeps = kept (record { plan = r; least = r.state.limit; used = r.state.used; known = true }) true (Dead b) f e (λ p. (refl, refl, refl)) }
 
   -- that there is none
   pub remembered_none : (b : ℕ) (least : Euro) → r.walked ≡ Dead b → r.state.found ≡ false → least.0 ≡ max m.least.0 (c + 1)
       → Remembered m c r (record { plan = m.plan; least = least; used = r.state.used; known = m.known })
-  remembered_none b least e f l = record { words = refl; keeps = kept _ false (Dead b) f e (λ p. (refl, l, refl)) }
+  remembered_none b least e f l = record { words = refl; keeps = kept (record { plan = m.plan; least = least; used = r.state.used; known = m.known }) false (Dead b) f e (λ p. (refl, l, refl)) }
 
   -- of a spent ask, nothing
   pub remembered_spent : (n : ℕ) → r.walked ≡ Spent n
@@ -134,5 +134,5 @@ module _ (m : Carry) (c : ℕ) (r : Reply) where
     where
       go : (f : Bool) → r.state.found ≡ f → (p : Problem)
           → Keeps m c r (record { plan = m.plan; least = m.least; used = r.state.used; known = m.known }) (answer_of p r)
-      go true f = kept _ true (Spent n) f e (λ p. (refl, refl, refl))
-      go false f = kept _ false (Spent n) f e (λ p. (refl, refl, refl))
+      go true f = kept (record { plan = m.plan; least = m.least; used = r.state.used; known = m.known }) true (Spent n) f e (λ p. (refl, refl, refl))
+      go false f = kept (record { plan = m.plan; least = m.least; used = r.state.used; known = m.known }) false (Spent n) f e (λ p. (refl, refl, refl))
