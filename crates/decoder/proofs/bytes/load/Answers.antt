@@ -1,4 +1,4 @@
-use Rattle.std.proofs.Common.{◌-◌, refl, length-set, rules}
+use Rattle.std.proofs.Common.{refl, length-set, rules}
 use Rattle.decoder.proofs.BytesLaws.{load_uneven, load_short, load_all, words_start, words_next, words_ended, words_kept}
 use Rattle.decoder.proofs.bytes.load.Goals as goal
 

@@ -1,4 +1,4 @@
-use Rattle.std.proofs.Common.{◌-◌, rules}
+use Rattle.std.proofs.Common.{rules}
 use Rattle.decoder.proofs.StepLaws.{pass_start, pass_next, pass_stop}
 use Rattle.decoder.proofs.stages.pass.Goals as goal
 

@@ -1,4 +1,4 @@
-use Rattle.std.proofs.Common.{◌-◌, refl, rules}
+use Rattle.std.proofs.Common.{refl, rules}
 use Rattle.decoder.proofs.StepLaws.{pass_stop, pairs_next, prev_next}
 use Rattle.decoder.proofs.stages.pass_pairs.Goals as goal
 

@@ -2,7 +2,6 @@
 -- Assumes nothing.
 use Rattle.decoder.proofs.StageLaws.{onwards}
 use Rattle.decoder.proofs.ArmLaws.{arms}
-use Rattle.std.proofs.Common.{rules}
 use Rattle.decoder.proofs.stages.stage_of.Goals as goal
 
 pub returns-in-0 : goal.returns-in-0
