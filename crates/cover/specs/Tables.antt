@@ -1,6 +1,6 @@
 -- The tables of numbers that the choice of a cover reads: what units give and weigh, and the sums over the free units that cut it.
 -- Assumes nothing.
-use Rattle.std.specs.Prelude.{ℕ, ◌+◌, ◌-◌, ◌*◌, ◌≤◌, ◌≡◌, not, ◌&&◌, List, length, get_or}
+use Rattle.std.specs.Prelude.{ℕ, ◌+◌, ◌-◌, ◌*◌, ◌≤◌, ◌≡◌, not, ◌&&◌, List, length}
 use Rattle.sums.specs.Sum.{sum_to}
 use Rattle.sums.specs.Table.{entry, AtMost}
 use Rattle.sums.specs.NumSet.{NumSet, only_in, complement, has}

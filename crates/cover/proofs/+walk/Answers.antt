@@ -1,4 +1,4 @@
-use Rattle.std.proofs.Common.{◌-◌, rules}
+use Rattle.std.proofs.Common.{rules}
 use Rattle.cover.proofs.TableLaws.{cut_dear, cut_room, cut_rate, need_small, rate_small, gain_small, leaf, turn_out, turn_in}
 use Rattle.cover.proofs.+walk.Goals as goal
 

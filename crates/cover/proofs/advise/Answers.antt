@@ -1,4 +1,4 @@
-use Rattle.std.proofs.Common.{◌-◌, rules}
+use Rattle.std.proofs.Common.{rules}
 use Rattle.cover.proofs.TableLaws.{ratio_most}
 use Rattle.cover.proofs.advise.Goals as goal
 

@@ -1,4 +1,4 @@
-use Rattle.std.proofs.Common.{◌-◌, rules}
+use Rattle.std.proofs.Common.{rules}
 use Rattle.cover.proofs.TableLaws.{cuts_start, cuts_ended}
 use Rattle.cover.proofs.cuts_of.Goals as goal
 

@@ -1,4 +1,4 @@
-use Rattle.std.proofs.Common.{◌-◌, rules}
+use Rattle.std.proofs.Common.{rules}
 use Rattle.cover.proofs.lightest.Goals as goal
 
 pub loop-i-init : goal.loop-i-init
