@@ -1,4 +1,4 @@
-use Rattle.std.proofs.Common.{◌-◌, refl, rules}
+use Rattle.std.proofs.Common.{refl, rules}
 use Rattle.sums.proofs.TableLaws.{at_most_start, at_most_put}
 use Rattle.commitment.proofs.ColumnLaws.{column_start, column_next, column_ended}
 use Rattle.commitment.proofs.capacities.Goals as goal

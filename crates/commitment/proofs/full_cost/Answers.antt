@@ -1,4 +1,4 @@
-use Rattle.std.proofs.Common.{rules, ◌-◌}
+use Rattle.std.proofs.Common.{rules}
 use Rattle.sums.proofs.LoopLaws.{sum_start, sum_next}
 use Rattle.commitment.proofs.LineLaws.{full_ended}
 use Rattle.commitment.proofs.full_cost.Goals as goal

@@ -1,4 +1,4 @@
-use Rattle.std.proofs.Common.{rules, ◌-◌}
+use Rattle.std.proofs.Common.{rules}
 use Rattle.sums.proofs.LoopLaws.{gathered_start, gathered_next}
 use Rattle.commitment.proofs.ThriftyLaws.{thrifty_none, thrifty_ended}
 use Rattle.commitment.proofs.thrifty_run.Goals as goal

@@ -1,4 +1,4 @@
-use Rattle.std.proofs.Common.{◌-◌, refl, rules}
+use Rattle.std.proofs.Common.{refl, rules}
 use Rattle.sums.proofs.TableLaws.{at_most_start, at_most_put}
 use Rattle.commitment.proofs.ColumnLaws.{column_start, column_ended, weight_next}
 use Rattle.commitment.proofs.ColumnLaws.{number_start, number_next, number_most}

@@ -1,4 +1,4 @@
-use Rattle.std.proofs.Common.{◌-◌, rules}
+use Rattle.std.proofs.Common.{rules}
 use Rattle.sums.proofs.LoopLaws.{sum_start}
 use Rattle.overhaul.proofs.OffLaws.{off_next, off_ended}
 use Rattle.overhaul.proofs.off_weeks.Goals as goal
