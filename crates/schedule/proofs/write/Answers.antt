@@ -1,4 +1,4 @@
-use Rattle.std.proofs.Common.{◌-◌, refl, length-set, rules}
+use Rattle.std.proofs.Common.{refl, length-set, rules}
 use Rattle.sums.proofs.LoopLaws.{list_start, list_next}
 use Rattle.schedule.proofs.DrawLaws.{bytes_ended}
 use Rattle.schedule.proofs.write.Goals as goal

@@ -1,4 +1,4 @@
-use Rattle.std.proofs.Common.{◌-◌, refl, rules}
+use Rattle.std.proofs.Common.{refl, rules}
 use Rattle.sums.proofs.LoopLaws.{all_start, all_next, table_start, table_next, table_ended, table_broken}
 use Rattle.model.specs.Rules.{keeps3}
 use Rattle.rules.proofs.cells.keeps3.Goals as goal

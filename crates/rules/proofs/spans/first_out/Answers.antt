@@ -1,4 +1,4 @@
-use Rattle.std.proofs.Common.{◌-◌, rules}
+use Rattle.std.proofs.Common.{rules}
 use Rattle.rules.proofs.SpanLaws.{none_start, none_next, first_found, first_none}
 use Rattle.rules.proofs.spans.first_out.Goals as goal
 

@@ -1,4 +1,4 @@
-use Rattle.std.proofs.Common.{◌-◌, rules}
+use Rattle.std.proofs.Common.{rules}
 use Rattle.sums.proofs.LoopLaws.{table_start, table_ended}
 use Rattle.model.specs.Rules.{keeps4}
 use Rattle.rules.proofs.SpanLaws.{out_start, out_next, whole_next, whole_broken}

@@ -1,4 +1,4 @@
-use Rattle.std.proofs.Common.{◌-◌, rules}
+use Rattle.std.proofs.Common.{rules}
 use Rattle.sums.proofs.LoopLaws.{all_start, all_next, all_ended, all_broken}
 use Rattle.model.specs.Rules.{keeps5}
 use Rattle.rules.proofs.spans.keeps5.Goals as goal

@@ -1,4 +1,4 @@
-use Rattle.std.proofs.Common.{◌-◌, refl, rules}
+use Rattle.std.proofs.Common.{refl, rules}
 use Rattle.sums.proofs.LoopLaws.{all_start, all_next, all_ended, all_broken}
 use Rattle.model.specs.Rules.{keeps7}
 use Rattle.rules.proofs.weekly.keeps7.Goals as goal

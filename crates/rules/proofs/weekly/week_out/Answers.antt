@@ -1,4 +1,4 @@
-use Rattle.std.proofs.Common.{◌-◌, rules}
+use Rattle.std.proofs.Common.{rules}
 use Rattle.sums.proofs.LoopLaws.{sum_start, sum_next}
 use Rattle.rules.proofs.CellLaws.{headcount_ended}
 use Rattle.rules.proofs.weekly.week_out.Goals as goal

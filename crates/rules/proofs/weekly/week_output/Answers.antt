@@ -1,4 +1,4 @@
-use Rattle.std.proofs.Common.{◌-◌, rules}
+use Rattle.std.proofs.Common.{rules}
 use Rattle.sums.proofs.LoopLaws.{sum_start, sum_next}
 use Rattle.instance.proofs.RunLaws.{output_ended}
 use Rattle.rules.proofs.weekly.week_output.Goals as goal
