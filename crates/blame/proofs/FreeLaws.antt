@@ -1,6 +1,6 @@
 -- The free plant has the schedules of the problem, for nothing: a dead end at limit 1 there is a dead end at every limit here.
 -- Assumes nothing.
-use Prim.Native.Nat.{ℕ, ◌+◌, ◌≤◌, ◌<◌}
+use Prim.Native.Nat.{ℕ, ◌+◌, ◌<◌}
 use mathlib.Core.Path.{◌≡◌, refl, sym, ◌∙◌, ap}
 use mathlib.Core.Bool.{Bool, true, false, not}
 use native.Mathlib.Nat.{le_trans, zero-add}
@@ -45,9 +45,8 @@ use Rattle.model.specs.Rules.{
   cost9,
 }
 use Rattle.model.specs.Domain.{permitted}
-use Rattle.model.specs.Schedule.{Schedule, in_span, out_in, lay_out, IsRun, IsSchedule, Sound, cost}
-use Rattle.model.specs.Commitment.{full_cost}
-use Rattle.blame.specs.Closed.{Agree, Closed}
+use Rattle.model.specs.Schedule.{Schedule, in_span, out_in, lay_out, Sound, cost}
+use Rattle.blame.specs.Closed.{Closed}
 use Rattle.blame.specs.Placed.{out_of}
 use Rattle.blame.specs.Priced.{priced, price_sum, off_sum, unit_bound, lower_bound, LeastPriced, WeekLeast}
 use Rattle.blame.specs.Free.{NoSchedule, freed, span_price, UnitFree, WeekFree}

@@ -1,6 +1,6 @@
 -- Dead ends: starts of some units that no schedule has below a limit, for all schedules. A limit is exclusive: what is wanted costs less.
 -- Assumes nothing.
-use Rattle.std.specs.Prelude.{ℕ, ◌≤◌, ◌<◌, ◌≡◌, true, List, get_or, ltb}
+use Rattle.std.specs.Prelude.{ℕ, ◌≤◌, ◌<◌, ◌≡◌, true, ltb}
 use Rattle.sums.specs.NumSet.{NumSet}
 use Rattle.model.specs.Problem.{Problem}
 use Rattle.model.specs.Schedule.{Schedule, Sound, cost}

@@ -1,7 +1,7 @@
 -- The free plant: a problem with all costs 0. It has the same sound schedules, and each of them costs nothing; so where prices show that none costs
 -- less than 1 there, there is none at all. In the field such prices are a Farkas certificate: a proof that a problem is infeasible.
 -- Assumes nothing.
-use Rattle.std.specs.Prelude.{ℕ, ◌≤◌, ◌<◌, ◌≡◌, true}
+use Rattle.std.specs.Prelude.{ℕ, ◌≤◌, ◌≡◌, true}
 use Rattle.sums.specs.Sum.{sum_to, transposed}
 use Rattle.sums.specs.NumSet.{NumSet, only_in, complement}
 use Rattle.model.specs.Problem.{Problem}

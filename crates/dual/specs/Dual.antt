@@ -1,7 +1,7 @@
 -- What a search knows at prices for units that are not out: what each unit's overhaul costs from each start, what each week is worth with nobody
 -- out, and the lower bound of the starts of some units. In the field this is the Lagrangian dual; prices are its multipliers.
 -- Assumes nothing.
-use Rattle.std.specs.Prelude.{ℕ, ◌+◌, ◌≤◌, ◌<◌, ◌≡◌, true, List, length, get_or}
+use Rattle.std.specs.Prelude.{ℕ, ◌+◌, ◌≤◌, ◌<◌, ◌≡◌, true, List, length}
 use Rattle.sums.specs.Sum.{sum_to}
 use Rattle.sums.specs.NumSet.{NumSet, only_in, has}
 use Rattle.sums.specs.Table.{entry}

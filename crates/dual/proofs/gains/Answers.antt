@@ -1,4 +1,4 @@
-use Rattle.std.proofs.Common.{◌-◌, rules}
+use Rattle.std.proofs.Common.{rules}
 use Rattle.sums.proofs.LoopLaws.{sum_start, sum_ended}
 use Rattle.dual.proofs.BlameLaws.{gains_next}
 use Rattle.dual.proofs.gains.Goals as goal

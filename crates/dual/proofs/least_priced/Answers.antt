@@ -1,4 +1,4 @@
-use Rattle.std.proofs.Common.{◌-◌, rules}
+use Rattle.std.proofs.Common.{rules}
 use Rattle.dual.proofs.CostLaws.{starts_begin, starts_next}
 use Rattle.dual.proofs.CostLaws.{least_start, least_at, least_next, least_ended, least_most}
 use Rattle.dual.proofs.least_priced.Goals as goal

@@ -1,4 +1,4 @@
-use Rattle.std.proofs.Common.{◌-◌, rules}
+use Rattle.std.proofs.Common.{rules}
 use Rattle.dual.proofs.CostLaws.{costs_start, costs_ended}
 use Rattle.dual.proofs.put_all_costs.Goals as goal
 

@@ -1,4 +1,4 @@
-use Rattle.std.proofs.Common.{◌-◌, rules}
+use Rattle.std.proofs.Common.{rules}
 use Rattle.dual.proofs.CostLaws.{starts_begin, starts_permit, starts_next, put_least, put_ended}
 use Rattle.dual.proofs.put_costs.Goals as goal
 

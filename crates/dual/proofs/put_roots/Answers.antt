@@ -1,4 +1,4 @@
-use Rattle.std.proofs.Common.{◌-◌, refl, rules}
+use Rattle.std.proofs.Common.{refl, rules}
 use Rattle.dual.proofs.RootLaws.{roots_start, roots_ended}
 use Rattle.dual.proofs.put_roots.Goals as goal
 

@@ -1,4 +1,4 @@
-use Rattle.std.proofs.Common.{◌-◌, rules}
+use Rattle.std.proofs.Common.{rules}
 use Rattle.dual.proofs.BlameLaws.{back_start, back_next, back_ended}
 use Rattle.dual.proofs.put_weeks_back.Goals as goal
 

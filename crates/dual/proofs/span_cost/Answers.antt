@@ -1,4 +1,4 @@
-use Rattle.std.proofs.Common.{◌-◌, rules}
+use Rattle.std.proofs.Common.{rules}
 use Rattle.sums.proofs.LoopLaws.{sum_start}
 use Rattle.overhaul.proofs.UpkeepLaws.{start_some, ends_within}
 use Rattle.dual.proofs.CostLaws.{priced_next, span_ended}

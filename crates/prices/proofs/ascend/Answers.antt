@@ -1,4 +1,4 @@
-use Rattle.std.proofs.Common.{◌-◌, rules}
+use Rattle.std.proofs.Common.{rules}
 use Rattle.prices.proofs.RangeLaws.{priced_either, priced_chosen}
 use Rattle.prices.specs.Ranges.{PLACES, LEVEL, MOST_PUSH}
 use Rattle.memo.proofs.EntryLaws.{others_same, others_trans}

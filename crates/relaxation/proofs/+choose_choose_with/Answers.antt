@@ -1,4 +1,4 @@
-use Rattle.std.proofs.Common.{◌-◌, refl, arith, rules}
+use Rattle.std.proofs.Common.{refl, arith, rules}
 use Rattle.memo.proofs.EntryLaws.{others_same, others_trans}
 use Rattle.relaxation.proofs.LeftLaws.{spare_small, spare_next}
 use Rattle.relaxation.proofs.NodeLaws.{low_small, with_open, choosing_on, choosing_with}

@@ -1,4 +1,4 @@
-use Rattle.std.proofs.Common.{◌-◌, rules}
+use Rattle.std.proofs.Common.{rules}
 use Rattle.tables.proofs.TableLaws.{first_start, first_next, first_ended}
 use Rattle.tables.proofs.first.Goals as goal
 

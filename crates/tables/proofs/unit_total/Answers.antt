@@ -1,4 +1,4 @@
-use Rattle.std.proofs.Common.{◌-◌, rules}
+use Rattle.std.proofs.Common.{rules}
 use Rattle.tables.proofs.TableLaws.{unit_start, unit_next, unit_ended}
 use Rattle.tables.proofs.unit_total.Goals as goal
 

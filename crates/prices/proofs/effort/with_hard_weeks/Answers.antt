@@ -1,4 +1,4 @@
-use Rattle.std.proofs.Common.{◌-◌, rules}
+use Rattle.std.proofs.Common.{rules}
 use Rattle.prices.proofs.RangeLaws.{hard_start, hard_next}
 use Rattle.prices.proofs.effort.with_hard_weeks.Goals as goal
 

@@ -1,4 +1,4 @@
-use Rattle.std.proofs.Common.{◌-◌, rules}
+use Rattle.std.proofs.Common.{rules}
 use Rattle.sums.proofs.TableLaws.{at_most_put}
 use Rattle.prices.proofs.momentum.update_unit.Goals as goal
 

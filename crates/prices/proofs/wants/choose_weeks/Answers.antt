@@ -1,4 +1,4 @@
-use Rattle.std.proofs.Common.{refl, ◌-◌, rules}
+use Rattle.std.proofs.Common.{refl, rules}
 use Rattle.prices.proofs.RangeLaws.{priced_week_lem}
 use Rattle.memo.proofs.EntryLaws.{others_same, others_trans}
 use Rattle.prices.proofs.wants.choose_weeks.Goals as goal

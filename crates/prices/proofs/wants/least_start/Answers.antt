@@ -1,4 +1,4 @@
-use Rattle.std.proofs.Common.{◌-◌, rules}
+use Rattle.std.proofs.Common.{rules}
 use Rattle.prices.proofs.RangeLaws.{first_ends, last_ends}
 use Rattle.prices.proofs.wants.least_start.Goals as goal
 

@@ -1,4 +1,4 @@
-use Rattle.std.proofs.Common.{◌-◌, refl, rules}
+use Rattle.std.proofs.Common.{refl, rules}
 use Rattle.relaxation.proofs.LeftLaws.{left_start, left_fits, left_next, left_ended}
 use Rattle.relaxation.proofs.start.prices_left.Goals as goal
 

@@ -1,4 +1,4 @@
-use Rattle.std.proofs.Common.{◌-◌, rules}
+use Rattle.std.proofs.Common.{rules}
 use Rattle.relaxation.proofs.ShutLaws.{room_start, room_next, room_ended}
 use Rattle.relaxation.proofs.start.room_left.Goals as goal
 

@@ -1,4 +1,4 @@
-use Rattle.std.proofs.Common.{◌-◌, rules}
+use Rattle.std.proofs.Common.{rules}
 use Rattle.relaxation.proofs.ShutLaws.{shut_start, shut_ended}
 use Rattle.relaxation.proofs.start.shut_units.Goals as goal
 

@@ -1,4 +1,4 @@
-use Rattle.std.proofs.Common.{rules, ◌-◌}
+use Rattle.std.proofs.Common.{rules}
 use Rattle.states.proofs.CountLaws.{short_start, short_next}
 use Rattle.states.proofs.bounds.ons_needed.Goals as goal
 

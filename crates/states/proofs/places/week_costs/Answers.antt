@@ -1,4 +1,4 @@
-use Rattle.std.proofs.Common.{◌-◌, rules}
+use Rattle.std.proofs.Common.{rules}
 use Rattle.states.proofs.PlaceLaws.{places_start, places_next, places_ended}
 use Rattle.states.proofs.places.week_costs.Goals as goal
 

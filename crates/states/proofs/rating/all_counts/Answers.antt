@@ -1,4 +1,4 @@
-use Rattle.std.proofs.Common.{refl, ◌-◌, rules}
+use Rattle.std.proofs.Common.{refl, rules}
 use Rattle.states.specs.SearchTables.{MOST_CAP}
 use Rattle.sums.proofs.TableLaws.{at_most_start, at_most_put}
 use Rattle.states.proofs.rating.all_counts.Goals as goal

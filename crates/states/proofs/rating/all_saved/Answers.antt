@@ -1,4 +1,4 @@
-use Rattle.std.proofs.Common.{refl, ◌-◌, rules}
+use Rattle.std.proofs.Common.{refl, rules}
 use Rattle.states.proofs.RangeLaws.{count_under}
 use Rattle.states.specs.SearchTables.{MOST_COST}
 use Rattle.sums.proofs.TableLaws.{at_most_start, at_most_put}

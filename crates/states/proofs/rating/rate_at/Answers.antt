@@ -1,4 +1,4 @@
-use Rattle.std.proofs.Common.{◌-◌, rules}
+use Rattle.std.proofs.Common.{rules}
 use Rattle.states.proofs.RangeLaws.{count_fits, count_next, weight_under}
 use Rattle.states.proofs.rating.rate_at.Goals as goal
 

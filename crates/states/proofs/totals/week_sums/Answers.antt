@@ -1,4 +1,4 @@
-use Rattle.std.proofs.Common.{◌-◌, rules}
+use Rattle.std.proofs.Common.{rules}
 use Rattle.states.proofs.TotalLaws.{sums_start, sum_small, sums_next, sums_ended}
 use Rattle.states.proofs.totals.week_sums.Goals as goal
 

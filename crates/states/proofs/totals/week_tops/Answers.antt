@@ -1,4 +1,4 @@
-use Rattle.std.proofs.Common.{◌-◌, rules}
+use Rattle.std.proofs.Common.{rules}
 use Rattle.states.proofs.TotalLaws.{tops_start, top_small, cap_small, tops_next, tops_ended}
 use Rattle.states.proofs.totals.week_tops.Goals as goal
 

@@ -1,4 +1,4 @@
-use Rattle.std.proofs.Common.{rules, ◌-◌}
+use Rattle.std.proofs.Common.{rules}
 use Rattle.states.proofs.StepLaws.{comes_crews, comes_passed, comes_made, seen_ended, seen_some, seen_score, seen_best, floor_turn}
 use Rattle.states.proofs.walk.+branch_turn_walk.Goals as goal
 

@@ -1,7 +1,7 @@
 -- `states::walk::branch`, `turn` and `walk`, which call each other, meet their contracts: the three states of the highest place, tried or passed over,
 -- leave a lower bound for all choices; the places left fall.
 -- Assumes nothing.
-use Rattle.std.proofs.Common.{◌+◌, ◌-◌, ◌*◌}
+use Rattle.std.proofs.Common.{◌+◌, ◌*◌}
 use Rattle.states.proofs.walk.+branch_turn_walk.Given as goal
 
 abbrev pub decreases-branch : goal.decreases-branch
