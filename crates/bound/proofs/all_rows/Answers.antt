@@ -1,4 +1,4 @@
-use Rattle.std.proofs.Common.{◌-◌, rules}
+use Rattle.std.proofs.Common.{rules}
 use Rattle.bound.proofs.RunLaws.{placed_none, placed_due, placed_next, placed_all}
 use Rattle.bound.proofs.all_rows.Goals as goal
 

@@ -1,4 +1,4 @@
-use Rattle.std.proofs.Common.{◌-◌, refl, rules}
+use Rattle.std.proofs.Common.{refl, rules}
 use Rattle.sums.proofs.LoopLaws.{sum_start}
 use Rattle.memo.proofs.EntryLaws.{others_same, others_trans}
 use Rattle.bound.proofs.LeafLaws.{row_tallies, paid_more, paid_ended}

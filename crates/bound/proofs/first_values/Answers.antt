@@ -1,4 +1,4 @@
-use Rattle.std.proofs.Common.{◌-◌, refl, rules}
+use Rattle.std.proofs.Common.{refl, rules}
 use Rattle.bound.proofs.RootedLaws.{fronts_start, fronts_next, fronts_ended}
 use Rattle.bound.proofs.first_values.Goals as goal
 

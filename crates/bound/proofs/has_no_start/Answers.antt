@@ -1,4 +1,4 @@
-use Rattle.std.proofs.Common.{◌-◌, refl, rules}
+use Rattle.std.proofs.Common.{refl, rules}
 use Rattle.sums.specs.Range.{some_to}
 use Rattle.bound.proofs.StartlessLaws.{startless_found, startless_next, startless_ended}
 use Rattle.bound.proofs.has_no_start.Goals as goal

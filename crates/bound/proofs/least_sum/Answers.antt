@@ -1,4 +1,4 @@
-use Rattle.std.proofs.Common.{◌-◌, rules}
+use Rattle.std.proofs.Common.{rules}
 use Rattle.sums.proofs.LoopLaws.{sum_start}
 use Rattle.bound.proofs.RootedLaws.{least_next, least_ended}
 use Rattle.bound.proofs.least_sum.Goals as goal

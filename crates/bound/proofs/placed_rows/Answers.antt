@@ -1,4 +1,4 @@
-use Rattle.std.proofs.Common.{◌-◌, rules}
+use Rattle.std.proofs.Common.{rules}
 use Rattle.bound.proofs.RowLaws.{due_unit, due_few, due_some, due_ends, due_tally, rows_start, rows_next, rows_ended}
 use Rattle.bound.proofs.placed_rows.Goals as goal
 

@@ -1,4 +1,4 @@
-use Rattle.std.proofs.Common.{◌-◌, rules}
+use Rattle.std.proofs.Common.{rules}
 use Rattle.bound.proofs.RootedLaws.{root_start, root_fits, root_next, root_shut, root_blames, root_stands}
 use Rattle.bound.proofs.root.Goals as goal
 

@@ -1,4 +1,4 @@
-use Rattle.std.proofs.Common.{◌-◌, refl, rules}
+use Rattle.std.proofs.Common.{refl, rules}
 use Rattle.bound.proofs.RunLaws.{runs_start, runs_next, runs_ended}
 use Rattle.bound.proofs.runs.Goals as goal
 

@@ -1,4 +1,3 @@
-use Rattle.std.proofs.Common.{◌-◌}
 use Rattle.nogood.proofs.RecallLaws.{reading_start, reading_next, reading_end, reading_out}
 use Rattle.nogood.proofs.matching.Goals as goal
 

@@ -1,4 +1,3 @@
-use Rattle.std.proofs.Common.{◌-◌}
 use Rattle.nogood.proofs.RecallLaws.{told}
 use Rattle.nogood.proofs.recall.Goals as goal
 

@@ -1,4 +1,4 @@
-use Rattle.std.proofs.Common.{◌-◌, rules}
+use Rattle.std.proofs.Common.{rules}
 use Rattle.sums.proofs.LoopLaws.{sum_start, sum_next, sum_ended}
 use Rattle.nogood.proofs.size.Goals as goal
 

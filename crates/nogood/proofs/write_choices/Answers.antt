@@ -1,4 +1,4 @@
-use Rattle.std.proofs.Common.{◌-◌, rules}
+use Rattle.std.proofs.Common.{rules}
 use Rattle.nogood.proofs.NotingLaws.{writing_start, writing_next, writing_place, writing_words}
 use Rattle.nogood.proofs.write_choices.Goals as goal
 

@@ -1,4 +1,4 @@
-use Rattle.std.proofs.Common.{◌-◌, refl, rules}
+use Rattle.std.proofs.Common.{refl, rules}
 use Rattle.bound.proofs.TestLaws.{due_permitted, tested_start, weeks_rise, weeks_few, weeks_due, tested_reached, tested_shut, tested_more, tested_ended}
 use Rattle.bound.proofs.weeks.test_weeks.Goals as goal
 
