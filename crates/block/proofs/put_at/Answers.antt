@@ -1,4 +1,4 @@
-use Rattle.std.proofs.Common.{◌-◌, refl, length-set, rules}
+use Rattle.std.proofs.Common.{refl, length-set, rules}
 use Rattle.lent.proofs.SpliceLaws.{splice_start, splice_next}
 use Rattle.block.proofs.BlockLaws.{block_ended}
 use Rattle.block.proofs.put_at.Goals as goal
