@@ -1,7 +1,7 @@
 -- What the functions of a run ask and give, one after the other.
 -- Assumes nothing.
 use Prim.Native.Nat.{ℕ, ◌+◌, ◌/◌, ◌≤◌, ◌<◌}
-use mathlib.Core.Path.{◌≡◌, refl, sym, ◌∙◌, subst}
+use mathlib.Core.Path.{◌≡◌, refl, ◌∙◌, subst}
 use mathlib.Core.Bool.{Bool, true, false}
 use mathlib.Core.List.{List}
 use native.Mathlib.Omega.{arith}
@@ -12,7 +12,7 @@ use Rattle.model.specs.Words.{problem_of}
 use Rattle.model.specs.Asks.{ask_count, ceiling_at, budget_at, Answered}
 use Rattle.instance.specs.Filed.{Filed}
 use Rattle.memo.specs.Memo.{Right, Others}
-use Rattle.memo.proofs.EntryLaws.{right_empty, others_trans}
+use Rattle.memo.proofs.EntryLaws.{right_empty}
 use Rattle.tables.specs.Tables.{price_in, First, Priced}
 use Rattle.relaxation.specs.Relaxed as relaxed
 use Rattle.relaxation.proofs.ValueLaws.{recalls_empty, recalls_others}

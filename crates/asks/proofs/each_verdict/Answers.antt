@@ -1,4 +1,3 @@
-use Rattle.std.proofs.Common.{◌-◌}
 use Rattle.model.proofs.VerdictLaws.{onward_start, onward_ended, onward_fault, onward_next}
 use Rattle.asks.proofs.each_verdict.Goals as goal
 

@@ -1,4 +1,4 @@
-use Rattle.std.proofs.Common.{rules, ◌-◌, refl}
+use Rattle.std.proofs.Common.{rules, refl}
 use Rattle.planner.proofs.DueLaws.{runs_turn, runs_fit, runs_next, runs_ended, runs_long}
 use Rattle.planner.proofs.answer_each.Goals as goal
 
