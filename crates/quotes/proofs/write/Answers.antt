@@ -1,4 +1,4 @@
-use Rattle.std.proofs.Common.{◌-◌, refl, length-set, rules}
+use Rattle.std.proofs.Common.{refl, length-set, rules}
 use Rattle.sums.proofs.LoopLaws.{list_start}
 use Rattle.quotes.proofs.CostLaws.{costs_next, costs_ended}
 use Rattle.quotes.proofs.write.Goals as goal
