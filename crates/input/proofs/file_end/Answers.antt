@@ -1,4 +1,4 @@
-use Rattle.std.proofs.Common.{◌-◌, rules}
+use Rattle.std.proofs.Common.{rules}
 use Rattle.input.proofs.InputLaws.{end_start, end_here, end_next, end_none}
 use Rattle.input.proofs.file_end.Goals as goal
 

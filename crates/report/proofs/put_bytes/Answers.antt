@@ -1,4 +1,4 @@
-use Rattle.std.proofs.Common.{◌-◌, refl, length-set, rules}
+use Rattle.std.proofs.Common.{refl, length-set, rules}
 use Rattle.report.proofs.PutLaws.{bytes_start, bytes_next, bytes_ended}
 use Rattle.report.proofs.put_bytes.Goals as goal
 

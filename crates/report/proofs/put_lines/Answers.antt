@@ -1,4 +1,4 @@
-use Rattle.std.proofs.Common.{◌-◌, refl, rules}
+use Rattle.std.proofs.Common.{refl, rules}
 use Rattle.report.proofs.LineLaws.{lines_start, lines_whole, lines_few, lines_room, lines_next, lines_ended}
 use Rattle.report.proofs.put_lines.Goals as goal
 

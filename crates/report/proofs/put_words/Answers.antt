@@ -1,4 +1,4 @@
-use Rattle.std.proofs.Common.{◌-◌, refl, rules}
+use Rattle.std.proofs.Common.{refl, rules}
 use Rattle.report.proofs.PutLaws.{words_start, words_room, words_next, words_ended}
 use Rattle.report.proofs.put_words.Goals as goal
 

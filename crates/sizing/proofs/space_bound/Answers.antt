@@ -1,4 +1,4 @@
-use Rattle.std.proofs.Common.{◌-◌, rules}
+use Rattle.std.proofs.Common.{rules}
 use Rattle.sizing.proofs.SizingLaws.{power_start, sum_start, cap_fits, cap_power, cap_sum, cap_ended}
 use Rattle.sizing.proofs.space_bound.Goals as goal
 
