@@ -1,4 +1,3 @@
-use Rattle.std.proofs.Common.{◌-◌}
 use Rattle.model.proofs.VerdictLaws.{onward_start, onward_ended}
 use Rattle.checker.proofs.JudgingLaws.{cells_fault, cells_next}
 use Rattle.checker.proofs.cells_verdict.Goals as goal

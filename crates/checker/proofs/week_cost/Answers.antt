@@ -1,4 +1,4 @@
-use Rattle.std.proofs.Common.{◌-◌, rules}
+use Rattle.std.proofs.Common.{rules}
 use Rattle.sums.proofs.LoopLaws.{sum_start, sum_next}
 use Rattle.checker.proofs.CostLaws.{week_ended}
 use Rattle.checker.proofs.week_cost.Goals as goal
