@@ -6,14 +6,13 @@ use mathlib.Core.Bool.{Bool, true, false, not}
 use mathlib.Core.List.{List}
 use native.Mathlib.Omega.{arith}
 use lib.Dec.{ltb}
-use lib.ListN.{length, set}
-use borrow.Author.Tests.{ltb-true, lt-ltb, le-ltb}
-use Rattle.sums.specs.NumSet.{NumSet, has}
+use lib.ListN.{length}
+use borrow.Author.Tests.{le-ltb}
+use Rattle.sums.specs.NumSet.{has}
 use Rattle.sums.specs.Table.{entry}
 use Rattle.sums.proofs.LogicLaws.{true_false, not_at}
 use Rattle.model.specs.declared.Layout.{Layout}
 use Rattle.model.specs.Problem.{Problem}
-use Rattle.model.specs.Nogood.{MOST_LIMIT}
 use Rattle.model.specs.Words.{problem_of}
 use Rattle.instance.specs.declared.Euro.{Euro}
 use Rattle.instance.specs.Filed.{Filed}
@@ -21,29 +20,27 @@ use Rattle.overhaul.specs.Range.{StartRange}
 use Rattle.overhaul.proofs.StartLaws.{range_in}
 use Rattle.blame.specs.Placed.{first_units}
 use Rattle.blame.proofs.ClosedLaws.{closed_more}
-use Rattle.blame.proofs.PlacedLaws.{first_next}
 use Rattle.tables.specs.Tables.{price_in}
 use Rattle.relaxation.specs.Relaxed.{MemoTrue}
 use Rattle.dual.specs.declared.Node.{Node}
-use Rattle.dual.specs.Blame.{placed_after, next_node, IsNext}
-use Rattle.bound.specs.declared.Trial.{Trial}
+use Rattle.dual.specs.Blame.{placed_after, IsNext}
 use Rattle.bound.specs.declared.Trial.TheVariants.{Holds, Fails}
 use Rattle.bound.specs.Rows.{RowsWith}
 use Rattle.bound.specs.Tests.{Blames, Judged}
 use Rattle.state.specs.declared.State.{State}
 use Rattle.state.specs.State.{tried_once}
-use Rattle.walk.specs.Walk.{TableTrue, Carried, Walking, InOrder}
+use Rattle.walk.specs.Walk.{Carried, Walking}
 use Rattle.walk.proofs.StateLaws.{carried_same, carried_next, held_carried}
 use Rattle.walk.proofs.PlaceLaws.{put_here, put_below}
 use Rattle.walk.proofs.TryLaws.{joined_order, order_next}
 use Rattle.probe.specs.declared.Visit.{Visit}
 use Rattle.probe.specs.declared.Tried.{Tried}
-use Rattle.probe.specs.Probe.{TriedTo, Opened, Startable, PlaceDue, StartDue, StartTaken, IsStart, start_at}
+use Rattle.probe.specs.Probe.{Opened, PlaceDue, StartDue, StartTaken, IsStart, start_at}
 use Rattle.probe.proofs.OpenLaws.{startable_at}
 use Rattle.probe.proofs.UnitLaws.{tried_none}
 use Rattle.probe.proofs.TryLaws.{next, taken_places}
 use Rattle.descent.specs.declared.Descent.{Descent}
-use Rattle.descent.specs.Descent.{Descending, Lowering, Follows, UnitNeeds, UnitDue, TryNeeds, TryDue, HeldDue, IsAt, Failed, Lowered, Passed, UnitDone, TryDone, HeldDone, Found}
+use Rattle.descent.specs.Descent.{Descending, Lowering, Follows, UnitDue, TryNeeds, TryDue, HeldDue, IsAt, Passed, UnitDone, TryDone, HeldDone, Found}
 use Rattle.descent.proofs.DescentLaws.{lowering_next}
 
 -- ---- a start that holds

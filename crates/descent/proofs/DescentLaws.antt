@@ -1,8 +1,8 @@
 -- The descent gives the earliest of the cheapest: what holds over units and over the starts of one unit, and what it says at the end.
 -- Assumes nothing.
-use Prim.Native.Nat.{ℕ, ◌+◌, ◌-◌, ◌≤◌, ◌<◌}
+use Prim.Native.Nat.{ℕ, ◌+◌, ◌≤◌, ◌<◌}
 use mathlib.Core.Path.{◌≡◌, refl, sym, ◌∙◌, ap, subst}
-use mathlib.Core.Bool.{Bool, true, false}
+use mathlib.Core.Bool.{true}
 use mathlib.Core.List.{List}
 use mathlib.Core.Logic.{◌⊎◌, inl, inr}
 use native.Mathlib.Nat.{eq-or-lt_of_le}
@@ -14,7 +14,7 @@ use Rattle.sums.specs.NumSet.{has}
 use Rattle.sums.specs.Table.{entry}
 use Rattle.model.specs.Problem.{Problem, Fair}
 use Rattle.model.specs.Schedule.{Schedule, out_in, Sound, cost}
-use Rattle.model.specs.Order.{Same, Lower, Earlier}
+use Rattle.model.specs.Order.{Same, Lower}
 use Rattle.blame.specs.Closed.{Agree, Closed, Settled}
 use Rattle.blame.specs.Placed.{first_units, paid, plan_of}
 use Rattle.blame.proofs.PlacedLaws.{leaf_sound, leaf_cost, leaf_first}

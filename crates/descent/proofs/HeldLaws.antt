@@ -1,25 +1,22 @@
 -- A start that holds: the plan that is known has it, a probe finds one with it, or none is left.
 -- Assumes nothing.
-use Prim.Native.Nat.{ℕ, ◌+◌, ◌*◌, ◌-◌, ◌≤◌, ◌<◌}
+use Prim.Native.Nat.{ℕ, ◌+◌, ◌-◌, ◌≤◌, ◌<◌}
 use mathlib.Core.Path.{◌≡◌, refl, sym, ◌∙◌, ap, subst, subst₂}
-use mathlib.Core.Bool.{Bool, true, false, not}
+use mathlib.Core.Bool.{Bool, true, false}
 use mathlib.Core.List.{List}
 use native.Mathlib.Omega.{arith}
-use lib.Dec.{ltb}
 use lib.ListN.{get_or}
 use borrow.Author.Count.{below_more}
 use borrow.Author.Tests.{ltb-true, lt-ltb}
-use Rattle.sums.specs.NumSet.{NumSet, has}
+use Rattle.sums.specs.NumSet.{has}
 use Rattle.sums.specs.Table.{entry}
-use Rattle.sums.proofs.LogicLaws.{true_false, not_at}
+use Rattle.sums.proofs.LogicLaws.{true_false}
 use Rattle.model.specs.declared.Layout.{Layout}
-use Rattle.model.specs.Problem.{Problem}
 use Rattle.model.specs.Order.{Same}
 use Rattle.model.specs.Words.{problem_of}
 use Rattle.model.proofs.FileLaws.{ranged, fair}
 use Rattle.instance.specs.declared.Euro.{Euro}
 use Rattle.instance.specs.Filed.{Filed}
-use Rattle.blame.specs.Closed.{Closed}
 use Rattle.blame.proofs.ClosedLaws.{closed_more}
 use Rattle.tables.specs.Tables.{price_in}
 use Rattle.relaxation.specs.Relaxed.{MemoTrue}
@@ -30,12 +27,12 @@ use Rattle.state.specs.declared.Step.{Step}
 use Rattle.state.specs.declared.Walked.{Walked}
 use Rattle.state.specs.declared.Walked.TheVariants.{Dead, Spent}
 use Rattle.state.specs.State.{limited_to}
-use Rattle.walk.specs.Walk.{TableTrue, Carried, Walking, Unspent}
-use Rattle.walk.proofs.StateLaws.{carried_same, carried_next, held_carried}
+use Rattle.walk.specs.Walk.{Carried, Unspent}
+use Rattle.walk.proofs.StateLaws.{carried_same, held_carried}
 use Rattle.probe.specs.declared.Visit.{Visit}
-use Rattle.probe.specs.Probe.{Improves, Says, Probed, Opened, PlaceDue, PlaceDone}
+use Rattle.probe.specs.Probe.{Says, Probed, Opened, PlaceDue, PlaceDone}
 use Rattle.descent.specs.declared.Descent.{Descent}
-use Rattle.descent.specs.Descent.{Descending, Lowering, Follows, UnitNeeds, UnitDue, HeldDue, Keeps, Told, IsAt, Failed, UnitDone, HeldDone, Finding, Found}
+use Rattle.descent.specs.Descent.{Descending, Lowering, UnitNeeds, HeldDue, Keeps, Told, IsAt, Failed, Found}
 use Rattle.descent.proofs.DescentLaws.{lowering_next, lowering_kept, lowering_found}
 
 -- ---- the start of the unit placed last

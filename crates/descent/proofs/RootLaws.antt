@@ -1,8 +1,8 @@
 -- The whole descent: it begins with no unit placed, and ends with the earliest plan.
 -- Assumes nothing.
-use Prim.Native.Nat.{ℕ, ◌+◌, ◌≤◌, ◌<◌}
-use mathlib.Core.Path.{◌≡◌, refl, sym, ◌∙◌, ap, subst}
-use mathlib.Core.Bool.{true, false}
+use Prim.Native.Nat.{ℕ, ◌+◌}
+use mathlib.Core.Path.{◌≡◌, sym, ◌∙◌, ap, subst}
+use mathlib.Core.Bool.{false}
 use mathlib.Core.List.{List}
 use native.Mathlib.Omega.{arith}
 use lib.ListN.{replicate}
@@ -12,14 +12,10 @@ use Rattle.sums.specs.Table.{entry}
 use Rattle.sums.proofs.LogicLaws.{true_false}
 use Rattle.sums.proofs.NumSetLaws.{zero_has}
 use Rattle.model.specs.declared.Layout.{Layout}
-use Rattle.model.specs.Problem.{Problem}
-use Rattle.model.specs.Nogood.{MOST_LIMIT}
 use Rattle.model.specs.Words.{problem_of}
 use Rattle.instance.specs.declared.Euro.{Euro}
-use Rattle.tables.specs.Tables.{price_in}
-use Rattle.relaxation.specs.Relaxed.{MemoTrue}
 use Rattle.bound.specs.declared.Trial.{Trial}
-use Rattle.bound.specs.declared.Trial.TheVariants.{Holds, Fails}
+use Rattle.bound.specs.declared.Trial.TheVariants.{Holds}
 use Rattle.bound.specs.Tests.{AllStand, RootValues, Rooted, RootDue}
 use Rattle.bound.proofs.RowLaws.{rows_none}
 use Rattle.state.specs.declared.State.{State}

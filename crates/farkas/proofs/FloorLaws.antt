@@ -1,18 +1,17 @@
 -- What every set of units that may be out comes to at least: by the capacities, by the prices that could be saved, and by the two ways of one unit.
 -- Assumes nothing.
 use Prim.Native.Nat.{ℕ, zero, suc, ◌+◌, ◌-◌, ◌*◌, ◌≤◌, ◌<◌}
-use mathlib.Core.Path.{◌≡◌, refl, sym, ◌∙◌, ap, subst}
-use mathlib.Core.Bool.{Bool, true, false, not, ◌||◌}
+use mathlib.Core.Path.{◌≡◌, refl, sym, ◌∙◌, ap}
+use mathlib.Core.Bool.{Bool, true, false, not}
 use mathlib.Core.Logic.{⊎_elim}
 use native.Mathlib.Nat.{eq-or-lt_of_le, le_trans, mul-le-mul_right, add-mul, one-mul, zero-mul}
 use native.Mathlib.Omega.{arith}
 use Rattle.sums.specs.Logic.{if}
 use Rattle.sums.specs.Sum.{sum_to, counts_one}
-use Rattle.sums.specs.NumSet.{NumSet, only_in, complement, has}
+use Rattle.sums.specs.NumSet.{NumSet, only_in, complement}
 use Rattle.sums.proofs.LogicLaws.{true_false}
 use Rattle.sums.proofs.NumSetLaws.{sum_split, sum_subset}
 use Rattle.model.specs.Problem.{Problem}
-use Rattle.model.specs.Pairs.{apart}
 use Rattle.farkas.specs.Choices.{MayBeOut, Floor, barred}
 
 -- ---- one unit

@@ -24,7 +24,7 @@ use Rattle.farkas.specs.declared.week.FreeWeek.{FreeWeek}
 use Rattle.farkas.specs.declared.week.Looked.{Looked}
 use Rattle.blame.specs.Free.{WeekFree}
 use Rattle.blame.proofs.PairLaws.{compatible_clear}
-use Rattle.farkas.specs.Choices.{OPEN, TOP, CAPS, NO_WEEK, MayBeOut, SumsDue, AtRoot, Floor, never_in, FreeAt, Savable, NodeDue, NodeAt, TryAt, StayDue, NodeFloor, NodeDone, ended_at, Seen, Stays, barred, Leaves, OutFloor, OutTried}
+use Rattle.farkas.specs.Choices.{OPEN, TOP, CAPS, NO_WEEK, MayBeOut, SumsDue, AtRoot, Floor, never_in, FreeAt, Savable, NodeDue, NodeAt, TryAt, StayDue, NodeFloor, NodeDone, ended_at, Seen, Stays, barred, Leaves, OutTried}
 use Rattle.farkas.proofs.FloorLaws.{sum_without, floor_less, floor_bars, floor_short, floor_open, floor_crews, floor_turn}
 
 -- ---- what is saved

@@ -1,11 +1,10 @@
 -- The test at given prices: what overhauls and weeks come to, all prices, and what it shows.
 -- Assumes nothing.
-use Prim.Native.Nat.{ℕ, zero, suc, ◌+◌, ◌-◌, ◌*◌, ◌/◌, ◌≤◌, ◌<◌}
+use Prim.Native.Nat.{ℕ, ◌+◌, ◌*◌, ◌/◌, ◌≤◌, ◌<◌}
 use mathlib.Core.Path.{◌≡◌, refl, sym, ◌∙◌, ap, subst}
 use mathlib.Core.Bool.{Bool, true, false}
 use mathlib.Core.List.{List}
-use mathlib.Core.Logic.{◌⊎◌, inl, inr, ⊎_elim}
-use native.Mathlib.Nat.{eq-or-lt_of_le, mul-le-mul, div-le_self, le_trans}
+use native.Mathlib.Nat.{mul-le-mul, div-le_self}
 use native.Mathlib.Decide.{ℕ_discrete}
 use native.Mathlib.Omega.{arith}
 use lib.Dec.{ltb, eqb}
@@ -17,7 +16,7 @@ use Rattle.sums.proofs.LogicLaws.{true_false}
 use Rattle.sums.proofs.SumLaws.{sum_same}
 use Rattle.sums.proofs.LoopLaws.{sum_next}
 use Rattle.model.specs.declared.Layout.{Layout}
-use Rattle.model.specs.Problem.{Problem, Fair}
+use Rattle.model.specs.Problem.{Problem}
 use Rattle.model.specs.Words.{problem_of}
 use Rattle.model.proofs.FileLaws.{fair}
 use Rattle.instance.specs.Filed.{Filed}

@@ -1,20 +1,18 @@
 -- What the calls of a probe ask and give, in the words of its two functions: a unit is placed, a start is tried.
 -- Assumes nothing.
 use Prim.Native.Nat.{ℕ, ◌+◌, ◌*◌, ◌-◌, ◌≤◌, ◌<◌}
-use mathlib.Core.Path.{◌≡◌, refl, sym, ◌∙◌, ap, subst, subst₂, fun_ext}
-use mathlib.Core.Bool.{Bool, true, false}
+use mathlib.Core.Path.{◌≡◌, refl, sym, ap, subst, subst₂}
+use mathlib.Core.Bool.{true, false}
 use mathlib.Core.List.{List}
 use native.Mathlib.Nat.{le_trans}
 use native.Mathlib.Omega.{arith}
-use lib.ListN.{length, set, length-set}
-use Rattle.sums.specs.NumSet.{NumSet, has, with}
+use lib.ListN.{length, set}
+use Rattle.sums.specs.NumSet.{has, with}
 use Rattle.sums.specs.Table.{entry}
-use Rattle.sums.proofs.LogicLaws.{true_false}
 use Rattle.model.specs.declared.Layout.{Layout}
 use Rattle.model.specs.Problem.{Problem}
 use Rattle.model.specs.Nogood.{MOST_LIMIT}
 use Rattle.model.specs.Words.{problem_of}
-use Rattle.instance.specs.declared.Euro.{Euro}
 use Rattle.instance.specs.Filed.{Filed}
 use Rattle.overhaul.specs.Range.{StartRange}
 use Rattle.overhaul.proofs.StartLaws.{range_in}
@@ -22,21 +20,20 @@ use Rattle.nogood.proofs.StockLaws.{stock_within}
 use Rattle.tables.specs.Tables.{price_in}
 use Rattle.relaxation.specs.Relaxed.{MemoTrue}
 use Rattle.dual.specs.declared.Node.{Node}
-use Rattle.dual.specs.Blame.{placed_after, IsNext}
+use Rattle.dual.specs.Blame.{placed_after}
 use Rattle.state.specs.declared.State.{State}
 use Rattle.state.specs.declared.Step.{Step}
 use Rattle.state.specs.declared.Walked.{Walked}
 use Rattle.state.specs.declared.Walked.TheVariants.{Dead, Spent}
-use Rattle.state.specs.State.{tried_once, stopped_at, dead_at, DeadEndNoted}
+use Rattle.state.specs.State.{dead_at, DeadEndNoted}
 use Rattle.walk.specs.declared.Turn.{Turn}
-use Rattle.walk.specs.Walk.{TableTrue, Walking, AllPlaced, LeavesUnit, GoesOn, TurnOf}
+use Rattle.walk.specs.Walk.{TableTrue, Walking, LeavesUnit, GoesOn, TurnOf}
 use Rattle.walk.proofs.StateLaws.{held_carried}
 use Rattle.walk.proofs.NotedLaws.{later_noted}
 use Rattle.probe.specs.declared.Visit.{Visit}
-use Rattle.probe.specs.declared.Tried.{Tried}
-use Rattle.probe.specs.Probe.{unplaced, Chosen, Goes, Probed, Trying, Opened, Startable, PlaceDue, StartDue, GoesTo, StartTaken, WeighDue, Weighed}
+use Rattle.probe.specs.Probe.{unplaced, Chosen, Probed, Trying, Opened, Startable, PlaceDue, StartDue, WeighDue, Weighed}
 use Rattle.probe.specs.Probe.{start_at, IsStart, PlaceDone, StartDone}
-use Rattle.probe.proofs.PlanLaws.{improves_same, goes_same, goes_next, unplaced_falls}
+use Rattle.probe.proofs.PlanLaws.{goes_next, unplaced_falls}
 use Rattle.probe.proofs.OpenLaws.{startable_at}
 use Rattle.probe.proofs.UnitLaws.{trying_start, trying_all, probed_stopped, probed_jump, trying_next}
 

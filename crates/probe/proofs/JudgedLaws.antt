@@ -1,17 +1,16 @@
 -- A start judged: by a noted conflict that is met, or by the tests of its weeks and its cost; and a plan of all units weighed.
 -- Assumes nothing.
-use Prim.Native.Nat.{ℕ, ◌+◌, ◌≤◌, ◌<◌}
+use Prim.Native.Nat.{ℕ, ◌<◌}
 use mathlib.Core.Path.{◌≡◌, refl, sym, ◌∙◌, ap, subst}
-use mathlib.Core.Bool.{Bool, true, false}
+use mathlib.Core.Bool.{true}
 use mathlib.Core.List.{List}
 use mathlib.Core.Logic.{inl, inr, ⊎_elim}
 use native.Mathlib.Omega.{arith}
 use borrow.Author.Tests.{ltb-true}
-use Rattle.sums.specs.NumSet.{NumSet, has}
+use Rattle.sums.specs.NumSet.{has}
 use Rattle.sums.specs.Table.{entry}
 use Rattle.sums.proofs.NumSetLaws.{with_back}
 use Rattle.model.specs.declared.Layout.{Layout}
-use Rattle.model.specs.Problem.{Problem}
 use Rattle.model.specs.Words.{problem_of}
 use Rattle.model.proofs.FileLaws.{ranged, fair}
 use Rattle.instance.specs.declared.Euro.{Euro}
@@ -30,14 +29,12 @@ use Rattle.bound.specs.declared.Trial.TheVariants.{Holds, Fails}
 use Rattle.bound.specs.Tests.{Blames, Judged, TestDue}
 use Rattle.state.specs.declared.State.{State}
 use Rattle.state.specs.declared.Step.{Step}
-use Rattle.state.specs.declared.Walked.{Walked}
-use Rattle.state.specs.declared.Walked.TheVariants.{Dead, Spent}
-use Rattle.state.specs.State.{tried_once, stopped_at, dead_at, improved_by}
+use Rattle.state.specs.State.{tried_once, stopped_at}
 use Rattle.walk.specs.declared.Visit.{Visit as LeafVisit}
-use Rattle.walk.specs.Walk.{AllPlaced, LeafDue, Leaf}
+use Rattle.walk.specs.Walk.{LeafDue, Leaf}
 use Rattle.probe.specs.declared.Visit.{Visit}
 use Rattle.probe.specs.declared.Tried.{Tried}
-use Rattle.probe.specs.Probe.{Chosen, Says, Probed, PlaceDue, StartDue, Judging, StartJudged, GoesTo, Deeper, StartTaken, WeighDue, IsLeaf, Weighed, Stops}
+use Rattle.probe.specs.Probe.{Says, StartDue, Judging, StartJudged, GoesTo, Deeper, StartTaken, WeighDue, IsLeaf, Weighed, Stops}
 use Rattle.probe.proofs.PlanLaws.{improves_same, goes_same}
 
 -- ---- a start

@@ -1,20 +1,18 @@
 -- The limit and the plan of a probe, its table and its tries, one state after another; the measure.
 -- Assumes nothing.
-use Prim.Native.Nat.{ℕ, zero, suc, ◌+◌, ◌-◌, ◌*◌, ◌≤◌, ◌<◌}
+use Prim.Native.Nat.{ℕ, zero, suc, ◌+◌, ◌≤◌, ◌<◌}
 use mathlib.Core.Path.{◌≡◌, refl, sym, ◌∙◌, ap, subst}
 use mathlib.Core.Bool.{Bool, true, false, not}
 use mathlib.Core.List.{List}
 use mathlib.Core.Logic.{◌⊎◌, inl, inr, ⊎_elim}
 use native.Mathlib.Nat.{le_trans, not-suc-le-zero, le_of_suc-le-suc, eq-or-lt_of_le}
 use native.Mathlib.Omega.{arith}
-use lib.Dec.{eqb}
-use lib.ListN.{length, set}
-use borrow.Author.Tests.{eq-eqb, ne_eqb}
+use lib.ListN.{set}
 use Rattle.sums.specs.Logic.{if}
 use Rattle.sums.specs.Range.{count_to}
 use Rattle.sums.specs.NumSet.{NumSet, with, complement}
 use Rattle.sums.specs.Table.{entry}
-use Rattle.sums.proofs.LogicLaws.{true_false, lt_or_ge, or_last_false}
+use Rattle.sums.proofs.LogicLaws.{true_false, lt_or_ge}
 use Rattle.sums.proofs.NumSetLaws.{with_at, with_old, with_else}
 use Rattle.model.specs.Problem.{Problem}
 use Rattle.state.specs.declared.State.{State}

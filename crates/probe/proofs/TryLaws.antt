@@ -1,6 +1,6 @@
 -- A start tried: the tries are spent, it fails, or it holds and another unit is placed.
 -- Assumes nothing.
-use Prim.Native.Nat.{ℕ, ◌+◌, ◌*◌, ◌-◌, ◌≤◌, ◌<◌}
+use Prim.Native.Nat.{ℕ, ◌*◌, ◌-◌, ◌<◌}
 use mathlib.Core.Path.{◌≡◌, refl, sym, ◌∙◌, ap, subst, subst₂, fun_ext}
 use mathlib.Core.Bool.{true}
 use mathlib.Core.List.{List}
@@ -32,7 +32,7 @@ use Rattle.walk.proofs.StateLaws.{carried_same}
 use Rattle.probe.specs.declared.Visit.{Visit}
 use Rattle.probe.specs.declared.Tried.{Tried}
 use Rattle.probe.specs.Probe.{unplaced, Goes, Probed, Opened, PlaceDue, StartDue, GoesTo, StartTaken, PlaceDone, StartDone}
-use Rattle.probe.proofs.PlanLaws.{improves_same, goes_same, goes_next, unplaced_falls}
+use Rattle.probe.proofs.PlanLaws.{improves_same, goes_next, unplaced_falls}
 
 -- a try is counted within the budget
 goes_tried : (p : Problem) (w : List ℕ) (st : State) → st.tries < st.budget → Goes p w st w (tried_once st)

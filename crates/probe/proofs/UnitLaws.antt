@@ -1,8 +1,8 @@
 -- The starts of a unit in turn: none tried yet, one more, all of them, a jump back past the unit, and a probe that stops.
 -- Assumes nothing.
 use Prim.Native.Nat.{ℕ, ◌+◌, ◌≤◌, ◌<◌}
-use mathlib.Core.Path.{◌≡◌, refl, sym, ◌∙◌, ap, subst}
-use mathlib.Core.Bool.{Bool, true, false, not}
+use mathlib.Core.Path.{◌≡◌, sym, ◌∙◌, ap, subst}
+use mathlib.Core.Bool.{true, false, not}
 use mathlib.Core.List.{List}
 use mathlib.Core.Logic.{◌⊎◌, inl, inr, ⊎_elim}
 use native.Mathlib.Nat.{le_trans, eq-or-lt_of_le}
@@ -13,7 +13,7 @@ use lib.ListN.{length, set}
 use borrow.Author.Tests.{eq-eqb, ne_eqb}
 use Rattle.sums.specs.NumSet.{NumSet, has, with, without}
 use Rattle.sums.specs.Table.{entry}
-use Rattle.sums.proofs.LogicLaws.{true_false, and_of, and_left, and_right, or_left, or_right, or_at, not_so}
+use Rattle.sums.proofs.LogicLaws.{true_false, and_of, and_left, and_right, or_left, or_right, or_at}
 use Rattle.sums.proofs.NumSetLaws.{zero_has, with_back}
 use Rattle.model.specs.Problem.{Problem}
 use Rattle.model.specs.Schedule.{Schedule, Sound, cost}
@@ -23,7 +23,6 @@ use Rattle.blame.specs.Closed.{Agree, Closed}
 use Rattle.bound.specs.Tests.{Blames}
 use Rattle.state.specs.declared.State.{State}
 use Rattle.state.specs.declared.Step.{Step}
-use Rattle.state.specs.declared.Walked.{Walked}
 use Rattle.state.specs.declared.Walked.TheVariants.{Dead, Spent}
 use Rattle.walk.specs.Walk.{Shares}
 use Rattle.walk.proofs.PlaceLaws.{put_here, put_other}

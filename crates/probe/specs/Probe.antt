@@ -1,7 +1,7 @@
 -- A probe: a walk from some units placed that takes the next unit as it likes. Its limit is exclusive and falls to the cost of each plan it finds;
 -- it keeps no place, no rank and no mark.
 -- Assumes nothing.
-use Rattle.std.specs.Prelude.{ℕ, ◌+◌, ◌≤◌, ◌<◌, ◌≡◌, Bool, true, false, List, length, set}
+use Rattle.std.specs.Prelude.{ℕ, ◌≤◌, ◌<◌, ◌≡◌, true, false, List, length, set}
 use Rattle.sums.specs.Range.{count_to}
 use Rattle.sums.specs.NumSet.{NumSet, has, complement}
 use Rattle.sums.specs.Table.{entry}

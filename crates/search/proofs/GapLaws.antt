@@ -5,35 +5,29 @@ use mathlib.Core.Path.{◌≡◌, refl, sym, ◌∙◌, ap, ap₂, subst}
 use mathlib.Core.Bool.{Bool, true, false}
 use mathlib.Core.List.{List}
 use native.Mathlib.Omega.{arith}
-use Rattle.sums.specs.Table.{entry}
 use Rattle.sums.proofs.LogicLaws.{true_false}
 use Rattle.model.specs.declared.Layout.{Layout}
 use Rattle.model.specs.Problem.{Problem}
 use Rattle.model.specs.Nogood.{MOST_LIMIT}
 use Rattle.model.specs.Words.{problem_of}
-use Rattle.model.proofs.FileLaws.{fair}
 use Rattle.instance.specs.declared.Euro.{Euro}
 use Rattle.tables.specs.Tables.{price_in}
 use Rattle.relaxation.specs.Relaxed.{MemoTrue}
 use Rattle.state.specs.declared.State.{State}
 use Rattle.state.specs.declared.Step.{Step}
 use Rattle.state.specs.declared.Walked.{Walked}
-use Rattle.state.specs.declared.Walked.TheVariants.{Dead, Spent}
-use Rattle.state.specs.State.{renewed_at, improved_by, dead_at}
-use Rattle.walk.specs.Walk.{TableTrue, Carried, Walking, AllSettled, Fresh, WalkDue, Finished, Unspent}
+use Rattle.state.specs.declared.Walked.TheVariants.{Dead}
+use Rattle.state.specs.State.{renewed_at}
+use Rattle.walk.specs.Walk.{Carried, Unspent}
 use Rattle.walk.proofs.StateLaws.{carried_same, carried_next, held_carried}
 use Rattle.probe.specs.Probe.{ProbeDue, RootDone}
-use Rattle.descent.specs.declared.Descent.{Descent}
-use Rattle.descent.specs.Descent.{DescentDue, Descended}
-use Rattle.descent.proofs.DescentLaws.{descended_best}
 use Rattle.search.specs.declared.gaps.Outcome.{Outcome}
-use Rattle.prices.specs.Ranges.{PricedFile}
 use Rattle.farkas.specs.declared.Findings.{Findings}
 use Rattle.farkas.specs.Sums.{ShowsNone}
 use Rattle.search.specs.declared.gaps.GapEnd.{GapEnd}
 use Rattle.search.specs.declared.gaps.GapTurn.{GapTurn}
 use Rattle.search.specs.declared.gaps.Probes.{Probes}
-use Rattle.search.specs.Walks.{SearchDue, SearchDone, OutcomeOf, Going, GoingDue, Planned, PlanDue, CeilingDue, Settles, Concludes, GapProbed, FirstTurn, probe_of, AfterProbe, plan_turn, vain_turn, VainOn, TurnOn, GapAt, GapStep, GapNext, GapsEnd, AfterDue, VainDue, Gapped, GapsDone}
+use Rattle.search.specs.Walks.{SearchDue, OutcomeOf, Going, GapProbed, FirstTurn, probe_of, AfterProbe, plan_turn, vain_turn, VainOn, TurnOn, GapAt, GapStep, GapNext, GapsEnd, Gapped, GapsDone}
 
 -- a probe's limit as the sum of three amounts
 pub probe_renewed : (at : GapTurn) (s r : State) (root gap sum limit : Euro) → s ≡ at.state → root ≡ at.root → gap ≡ at.gap → r ≡ renewed_at s limit at.left

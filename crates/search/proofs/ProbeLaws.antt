@@ -1,15 +1,13 @@
 -- The walks of an ask after its probes at gaps: a plan, none, the probe at the ceiling, and the last walk.
 -- Assumes nothing.
-use Prim.Native.Nat.{ℕ, ◌+◌, ◌-◌, ◌≤◌, ◌<◌}
+use Prim.Native.Nat.{ℕ}
 use mathlib.Core.Path.{◌≡◌, refl, sym, ◌∙◌, ap, ap₂, subst}
 use mathlib.Core.Bool.{Bool, true, false}
 use mathlib.Core.List.{List}
 use native.Mathlib.Omega.{arith}
-use Rattle.sums.specs.Table.{entry}
 use Rattle.sums.proofs.LogicLaws.{true_false}
 use Rattle.model.specs.declared.Layout.{Layout}
 use Rattle.model.specs.Problem.{Problem}
-use Rattle.model.specs.Nogood.{MOST_LIMIT}
 use Rattle.model.specs.Words.{problem_of}
 use Rattle.model.proofs.FileLaws.{fair}
 use Rattle.instance.specs.declared.Euro.{Euro}
@@ -17,11 +15,9 @@ use Rattle.tables.specs.Tables.{price_in}
 use Rattle.relaxation.specs.Relaxed.{MemoTrue}
 use Rattle.state.specs.declared.State.{State}
 use Rattle.state.specs.declared.Step.{Step}
-use Rattle.state.specs.declared.Walked.{Walked}
-use Rattle.state.specs.declared.Walked.TheVariants.{Dead, Spent}
 use Rattle.state.specs.State.{renewed_at, improved_by, dead_at}
-use Rattle.walk.specs.Walk.{TableTrue, Carried, Walking, AllSettled, Fresh, WalkDue, Finished, Unspent}
-use Rattle.walk.proofs.StateLaws.{carried_same, carried_next, held_carried}
+use Rattle.walk.specs.Walk.{Carried, WalkDue, Finished}
+use Rattle.walk.proofs.StateLaws.{carried_next, held_carried}
 use Rattle.probe.specs.Probe.{ProbeDue, RootDone}
 use Rattle.descent.specs.declared.Descent.{Descent}
 use Rattle.descent.specs.Descent.{DescentDue, Descended}
@@ -30,10 +26,8 @@ use Rattle.search.specs.declared.gaps.Outcome.{Outcome}
 use Rattle.prices.specs.Ranges.{PricedFile}
 use Rattle.farkas.specs.declared.Findings.{Findings}
 use Rattle.farkas.specs.Sums.{ShowsNone}
-use Rattle.search.specs.declared.gaps.GapEnd.{GapEnd}
-use Rattle.search.specs.declared.gaps.GapTurn.{GapTurn}
 use Rattle.search.specs.declared.gaps.Probes.{Probes}
-use Rattle.search.specs.Walks.{SearchDue, SearchDone, OutcomeOf, Going, GoingDue, Planned, PlanDue, CeilingDue, Settles, Concludes, GapProbed, FirstTurn, probe_of, AfterProbe, plan_turn, vain_turn, VainOn, TurnOn, GapAt, GapStep, GapNext, GapsEnd, AfterDue, VainDue, Gapped, GapsDone}
+use Rattle.search.specs.Walks.{SearchDone, OutcomeOf, Going, GoingDue, PlanDue, CeilingDue, Settles, Concludes, AfterDue, VainDue, GapsDone}
 
 -- where they have come
 module _ (ws : List ℕ) (l : Layout) (us w₀ : List ℕ) (st : State) (w memo : List ℕ) (r : Probes) (h : GapsDone ws l us w₀ st w memo r) where

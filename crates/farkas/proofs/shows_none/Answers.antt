@@ -1,6 +1,5 @@
 -- `farkas::shows_none` meets its contract: overhauls and weeks that come to more than all prices leave no schedule.
 -- Assumes nothing.
-use Rattle.std.proofs.Common.{rules}
 use Rattle.farkas.proofs.TestLaws.{test_none}
 use Rattle.farkas.proofs.shows_none.Goals as goal
 

@@ -1,4 +1,4 @@
-use Rattle.std.proofs.Common.{rules, ◌-◌}
+use Rattle.std.proofs.Common.{rules}
 use Rattle.farkas.proofs.TestLaws.{summed_start, summed_next, summed_ended, unit_at}
 use Rattle.farkas.proofs.units_sum.Goals as goal
 

@@ -1,4 +1,4 @@
-use Rattle.std.proofs.Common.{rules, ◌-◌}
+use Rattle.std.proofs.Common.{rules}
 use Rattle.farkas.proofs.TestLaws.{summed_start, summed_next, summed_ended, week_at}
 use Rattle.farkas.proofs.weeks_sum.Goals as goal
 

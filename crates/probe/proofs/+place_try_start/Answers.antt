@@ -1,9 +1,6 @@
-use Rattle.std.proofs.Common.{ℕ, ◌*◌, ◌-◌, ◌≡◌, refl, ◌∙◌, rules, arith, length}
-use Rattle.sums.specs.NumSet.{has}
-use Rattle.model.specs.Words.{problem_of}
-use Rattle.probe.specs.Probe.{unplaced}
+use Rattle.std.proofs.Common.{refl, ◌∙◌, rules, arith}
 use Rattle.probe.proofs.CallLaws.{place_filed, place_small, place_leaf, place_weighed, place_starts, place_long}
-use Rattle.probe.proofs.CallLaws.{Starts, starts_few, starts_small, starts_within, starts_fit, starts_try, starts_fall}
+use Rattle.probe.proofs.CallLaws.{starts_few, starts_small, starts_within, starts_fit, starts_try, starts_fall}
 use Rattle.probe.proofs.CallLaws.{starts_left, starts_next, starts_used, starts_most, starts_limit, starts_recalls, starts_done}
 use Rattle.probe.proofs.TryLaws.{try_recalls, try_long, try_stops}
 use Rattle.probe.proofs.TryLaws.{taken_filed, taken_recalls, taken_rows, taken_fails, taken_places, taken_falls, taken_placed}

@@ -1,6 +1,5 @@
 -- `farkas::fixed::fixed_none` meets its contract: one table after the other.
 -- Assumes nothing.
-use Rattle.std.proofs.Common.{rules}
 use Rattle.farkas.proofs.TestLaws.{none_yes}
 use Rattle.farkas.proofs.fixed.fixed_none.Goals as goal
 

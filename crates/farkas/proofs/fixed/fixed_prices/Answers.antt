@@ -1,4 +1,4 @@
-use Rattle.std.proofs.Common.{rules, ◌-◌}
+use Rattle.std.proofs.Common.{rules}
 use Rattle.prices.proofs.RangeLaws.{moved_on, moved_priced}
 use Rattle.farkas.proofs.TestLaws.{moved_file}
 use Rattle.farkas.proofs.fixed.fixed_prices.Goals as goal

@@ -1,4 +1,4 @@
-use Rattle.std.proofs.Common.{rules, ◌-◌}
+use Rattle.std.proofs.Common.{rules}
 use Rattle.prices.proofs.RangeLaws.{moved_start}
 use Rattle.farkas.proofs.TestLaws.{moved_put}
 use Rattle.farkas.proofs.fixed.put_week.Goals as goal

@@ -1,4 +1,4 @@
-use Rattle.std.proofs.Common.{rules, ◌-◌}
+use Rattle.std.proofs.Common.{rules}
 use Rattle.prices.proofs.RangeLaws.{moved_start, moved_next}
 use Rattle.farkas.proofs.rounds.multiply_week.Goals as goal
 

@@ -1,4 +1,4 @@
-use Rattle.std.proofs.Common.{rules, ◌-◌}
+use Rattle.std.proofs.Common.{rules}
 use Rattle.prices.specs.Ranges.{PLACES, LEVEL, MOST_PUSH}
 use Rattle.sums.proofs.TableLaws.{at_most_start}
 use Rattle.farkas.proofs.TestLaws.{none_yes, none_no}

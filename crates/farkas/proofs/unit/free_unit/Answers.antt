@@ -1,4 +1,4 @@
-use Rattle.std.proofs.Common.{rules, ◌-◌}
+use Rattle.std.proofs.Common.{rules}
 use Rattle.dual.proofs.CostLaws.{starts_begin, starts_next, least_at}
 use Rattle.farkas.proofs.UnitLaws.{start_fits, free_start, free_next, free_ended, free_most}
 use Rattle.farkas.proofs.unit.free_unit.Goals as goal

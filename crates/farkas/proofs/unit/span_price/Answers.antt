@@ -1,4 +1,4 @@
-use Rattle.std.proofs.Common.{rules, ◌-◌}
+use Rattle.std.proofs.Common.{rules}
 use Rattle.sums.proofs.LoopLaws.{sum_start}
 use Rattle.overhaul.proofs.UpkeepLaws.{start_some}
 use Rattle.farkas.proofs.UnitLaws.{ends_few, span_next, span_priced}

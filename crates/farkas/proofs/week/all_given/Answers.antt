@@ -1,4 +1,4 @@
-use Rattle.std.proofs.Common.{rules, ◌-◌}
+use Rattle.std.proofs.Common.{rules}
 use Rattle.sums.proofs.LoopLaws.{sum_start, sum_next}
 use Rattle.farkas.proofs.SumsLaws.{given_ended}
 use Rattle.farkas.proofs.week.all_given.Goals as goal

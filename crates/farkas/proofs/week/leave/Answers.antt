@@ -1,6 +1,5 @@
 -- `farkas::week::leave` meets its contract: its partners are barred with the unit out.
 -- Assumes nothing.
-use Rattle.std.proofs.Common.{rules}
 use Rattle.farkas.proofs.NodeLaws.{leave_made}
 use Rattle.farkas.proofs.week.leave.Goals as goal
 

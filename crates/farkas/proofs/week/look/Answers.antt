@@ -1,6 +1,5 @@
 -- `farkas::week::look` meets its contract: each way out by what the node comes to at least.
 -- Assumes nothing.
-use Rattle.std.proofs.Common.{rules}
 use Rattle.farkas.proofs.NodeLaws.{seen_short, seen_over, seen_value, seen_on}
 use Rattle.farkas.proofs.week.look.Goals as goal
 

@@ -1,4 +1,4 @@
-use Rattle.std.proofs.Common.{rules, ◌-◌}
+use Rattle.std.proofs.Common.{rules}
 use Rattle.farkas.proofs.SumsLaws.{never_start, never_due, never_ended}
 use Rattle.farkas.proofs.week.never_out.Goals as goal
 

@@ -1,6 +1,5 @@
 -- `farkas::week::never_with` meets its contract: the unit is looked at by what the others give.
 -- Assumes nothing.
-use Rattle.std.proofs.Common.{rules}
 use Rattle.farkas.proofs.SumsLaws.{never_more, never_same}
 use Rattle.farkas.proofs.week.never_with.Goals as goal
 

@@ -1,6 +1,5 @@
 -- `farkas::week::open_price` meets its contract.
 -- Assumes nothing.
-use Rattle.std.proofs.Common.{rules}
 use Rattle.farkas.proofs.SumsLaws.{price_never, price_open}
 use Rattle.farkas.proofs.week.open_price.Goals as goal
 

@@ -1,6 +1,5 @@
 -- `farkas::week::put_unit` meets its contract: four sums are written.
 -- Assumes nothing.
-use Rattle.std.proofs.Common.{rules}
 use Rattle.farkas.proofs.SumsLaws.{sums_next}
 use Rattle.farkas.proofs.week.put_unit.Goals as goal
 

@@ -1,4 +1,4 @@
-use Rattle.std.proofs.Common.{rules, ◌-◌}
+use Rattle.std.proofs.Common.{rules}
 use Rattle.farkas.proofs.SumsLaws.{sums_start, sums_ended}
 use Rattle.farkas.proofs.week.sums_of.Goals as goal
 

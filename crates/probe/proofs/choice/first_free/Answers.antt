@@ -1,4 +1,4 @@
-use Rattle.std.proofs.Common.{◌-◌, rules}
+use Rattle.std.proofs.Common.{rules}
 use Rattle.probe.proofs.ChoiceLaws.{placed_start, placed_next, chosen_free, chosen_all}
 use Rattle.probe.proofs.choice.first_free.Goals as goal
 

@@ -1,4 +1,3 @@
-use Rattle.std.proofs.Common.{◌-◌}
 use Rattle.probe.proofs.choice.narrowest.Goals as goal
 
 pub returns-then-best-eq0 : goal.returns-then-best-eq0

@@ -1,4 +1,4 @@
-use Rattle.std.proofs.Common.{◌-◌, rules}
+use Rattle.std.proofs.Common.{rules}
 use Rattle.probe.proofs.choice.shut_weeks.Goals as goal
 
 pub loop-t-init : goal.loop-t-init

@@ -1,4 +1,4 @@
-use Rattle.std.proofs.Common.{rules, ◌-◌, refl}
+use Rattle.std.proofs.Common.{rules, refl}
 use Rattle.search.proofs.AskLaws.{search_root}
 use Rattle.search.proofs.GapLaws.{turn_first, carried_first, turn_next, turn_carried, turn_falls, gaps_ended}
 use Rattle.search.proofs.gaps.probe_gaps.Goals as goal
