@@ -99,18 +99,18 @@ module _ (ws : List ℕ) (b u w : ℕ) (d d₁ d₂ : List ℕ) (at k r s : ℕ)
         let most : 5 ≤ BLOCK = omega arith in
         rw (← is, ne_eqb s 1 not-plan, eq-eqb s 2 e) (put_most d d₁ at r 5 BLOCK none_word f most)
 
-    module _ (not_None : s ≡ 2 → ⊥) where
+    module _ (not-none : s ≡ 2 → ⊥) where
       -- a best before the mark
       pub block_best : s ≡ 3 → Put d d₁ at r BLOCK (best_text ws b u w) → Put d d₁ at r BLOCK (block_text ws b u w)
       unfolding block_text
-      block_best e f = rw (← is, ne_eqb s 1 not-plan, ne_eqb s 2 not_None, eq-eqb s 3 e) f
+      block_best e f = rw (← is, ne_eqb s 1 not-plan, ne_eqb s 2 not-none, eq-eqb s 3 e) f
 
 -- a mark alone
 pub block_spent : (ws : List ℕ) (b u w : ℕ) (d d' : List ℕ) (at r : ℕ) → (get_or ws b 0 ≡ 1 → ⊥) → (get_or ws b 0 ≡ 2 → ⊥) → (get_or ws b 0 ≡ 3 → ⊥)
     → Put d d' at r BLOCK (spent_text ws b u w) → Put d d' at r BLOCK (block_text ws b u w)
 unfolding block_text spent_text
-block_spent ws b u w d d' at r not-plan not_None not-best f =
-    rw (ne_eqb (get_or ws b 0) 1 not-plan, ne_eqb (get_or ws b 0) 2 not_None, ne_eqb (get_or ws b 0) 3 not-best) f
+block_spent ws b u w d d' at r not-plan not-none not-best f =
+    rw (ne_eqb (get_or ws b 0) 1 not-plan, ne_eqb (get_or ws b 0) 2 not-none, ne_eqb (get_or ws b 0) 3 not-best) f
 
 -- ---- lines
 

@@ -187,10 +187,10 @@ ask_begins ws l us ask used w memo st known d b is = record {
 }
 
 module _ (p : Problem) (ceiling budget used : ℕ) (w w' : List ℕ) (st : State) (step : Step) (b : WalkStart ceiling budget used st)
-    (Ended-so : Finished p w w' st step) where
+    (ended-so : Finished p w w' st step) where
   -- the best so far at the end
   led : Incumbent p ceiling step.state
-  led = Ended-so.later.kept ceiling (record {
+  led = ended-so.later.kept ceiling (record {
     under = omega (arith, b.limit);
     none = λ e. b.limit;
     plan = λ e. true_false (sym e ∙ b.nothing);
@@ -203,11 +203,11 @@ module _ (p : Problem) (ceiling budget used : ℕ) (w w' : List ℕ) (st : State
   -- there is space for the end of the walk
   end_fits : used < length w → TableTrue p w used → step.state.used < length w'
   end_fits h held =
-      let r = Ended-so.later.carried.room (length w - 1) (omega (arith, b.used)) (omega arith) in
-      omega (arith, r, Ended-so.later.carried.long)
+      let r = ended-so.later.carried.room (length w - 1) (omega (arith, b.used)) (omega arith) in
+      omega (arith, r, ended-so.later.carried.long)
 
   end_small : ceiling < MOST_LIMIT → step.state.limit.0 ≤ MOST_LIMIT
-  end_small h = omega (arith, Ended-so.later.falls, b.limit)
+  end_small h = omega (arith, ended-so.later.falls, b.limit)
 
   -- the bounds alone that the answer stands for are those that the conclusion adds
   ends_as : (runs : List ℕ) (e : Bool) → step.state.found ≡ e → (b' : ℕ)
@@ -232,13 +232,13 @@ module _ (p : Problem) (ceiling budget used : ℕ) (w w' : List ℕ) (st : State
     correct : Correct p ceiling budget (answer_in p step.state runs step.walked)
     correct =
         answer_correct p fair ceiling budget step.state runs led are step.walked
-        (subst (λ (n : ℕ). Closes p n step.state step.walked) b.budget_is Ended-so.closes)
+        (subst (λ (n : ℕ). Closes p n step.state step.walked) b.budget_is ended-so.closes)
 
     stock_walked : (gs : List Nogood) → Stock p gs w used → Grown p DeadEnds gs w' step.state.used
-    stock_walked gs s = Ended-so.later.carried.stock gs (subst (Stock p gs w) (sym b.used) s)
+    stock_walked gs s = ended-so.later.carried.stock gs (subst (Stock p gs w) (sym b.used) s)
 
     room_walked : (n : ℕ) → used ≤ n → length w - KEPT_FREE ≤ n → step.state.used ≤ n
-    room_walked n h g = Ended-so.later.carried.room n (omega (arith, b.used)) g
+    room_walked n h g = ended-so.later.carried.room n (omega (arith, b.used)) g
 
     -- a walk that ended unspent
     asked_dead : (b' : ℕ) → step.walked ≡ Dead b' → w'' ≡ ended w' step.state.used step.state.limit.0
@@ -251,7 +251,7 @@ module _ (p : Problem) (ceiling budget used : ℕ) (w w' : List ℕ) (st : State
     asked_dead b' e t = record {
       correct = correct;
       stock = λ gs s.
-          let settled : AllSettled p step.state.limit.0 = subst (Closes p st.budget step.state) e Ended-so.closes in
+          let settled : AllSettled p step.state.limit.0 = subst (Closes p st.budget step.state) e ended-so.closes in
           let new = grown_next p gs w' step.state.used [] (end_bounds step.state.limit.0) (ended w' step.state.used step.state.limit.0)
           (end_used step.state.used step.state.limit.0) (stock_walked gs s) (λ hs h. stock_ended p hs w' step.state.used
           step.state.limit.0 h (end_fits space held) (end_small small) settled.costs) in
@@ -259,7 +259,7 @@ module _ (p : Problem) (ceiling budget used : ℕ) (w w' : List ℕ) (st : State
           ap (λ (k : Walked). concludes ceiling (answer_in p step.state runs k)) e ∙ ends_as runs step.state.found refl b' in
           rw (t, same) new;
       room = λ n h g. omega (arith, ended_room step.state.used step.state.limit.0, room_walked n h g);
-      long = ap length t ∙ (ended_length w' step.state.used step.state.limit.0 ∙ Ended-so.later.carried.long);
+      long = ap length t ∙ (ended_length w' step.state.used step.state.limit.0 ∙ ended-so.later.carried.long);
       untried = settled_idle;
       small = end_small small;
     }
@@ -280,7 +280,7 @@ module _ (p : Problem) (ceiling budget used : ℕ) (w w' : List ℕ) (st : State
           ap (λ (k : Walked). concludes ceiling (answer_in p step.state runs k)) e ∙ spent_nothing step.state.found m in
           rw (t, same) (stock_walked gs s);
       room = λ n h g. omega (arith, room_walked n h g);
-      long = ap length t ∙ Ended-so.later.carried.long;
+      long = ap length t ∙ ended-so.later.carried.long;
       untried = settled_idle;
       small = end_small small;
     }
