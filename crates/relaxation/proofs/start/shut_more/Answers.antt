@@ -5,4 +5,4 @@ use Rattle.relaxation.proofs.start.shut_more.Goals as goal
 
 -- by its parts: `search` applies a promise about every unit only where it is listed
 pub returns : goal.returns
-returns c = more_is _ _ _ _ _ c.before.with.ensures c.union.ensures
+returns c = more_is _ _ _ _ _ c.with.ensures c.union.ensures
