@@ -18,62 +18,50 @@ use Rattle.model.proofs.ReadingLaws.{refused_not}
 use Rattle.model.proofs.VerdictLaws.{first_passed, second_passed}
 use Rattle.instance.specs.Filed.{Filed}
 use Rattle.instance.proofs.FiledLaws.{filed}
-use Rattle.decoder.specs.declared.Verdict.{Verdict}
-use Rattle.decoder.specs.declared.Verdict.TheVariants.{Accepted, Refused}
-use Rattle.decoder.specs.Answers.{verdict_of}
 use Rattle.shape.specs.Shape.{block_size}
 use Rattle.asks.specs.Admitted.{Admitted}
 use Rattle.asks.proofs.RefusalLaws.{asks_passed, table_short, table_long, answers_short}
 
 -- ---- the tests in their order
 
-module _ (ws asks : List ℕ) (table answers scratch : ℕ) (v : Verdict) (said : verdict_of v ≡ read_of ws) where
+module _ (ws asks : List ℕ) (table answers scratch : ℕ) where
   -- the file's refusal
-  pub run_file : (number place : ℕ) → v ≡ Refused number place → refused number place ≡ run_verdict ws asks table answers scratch
+  pub run_file : (number place : ℕ) → refused number place ≡ read_of ws → refused number place ≡ run_verdict ws asks table answers scratch
   unfolding run_verdict and_then
-  run_file number place e = let q : refused number place ≡ read_of ws = rw e at said in rw (← q)
+  run_file number place q = rw (← q)
 
-  module _ (e : v ≡ Accepted) where
-    file_passed : accepted ≡ read_of ws
-    file_passed = rw e at said
-
+  module _ (file : accepted ≡ read_of ws) where
     -- an accepted file and its layout
     pub run_laid : (l : Layout) → l ≡ layout_of ws → Filed ws l
-    run_laid l laid = filed ws l (sym file_passed) laid
+    run_laid l laid = filed ws l (sym file) laid
 
-    module _ (a : Verdict) (asked : verdict_of a ≡ asks_verdict asks) where
-      -- the asks'
-      pub run_asks : (number place : ℕ) → a ≡ Refused number place → refused number place ≡ run_verdict ws asks table answers scratch
+    -- the asks'
+    pub run_asks : (number place : ℕ) → refused number place ≡ asks_verdict asks → refused number place ≡ run_verdict ws asks table answers scratch
+    unfolding run_verdict and_then
+    run_asks number place q = rw (← file, ← q)
+
+    module _ (each : accepted ≡ asks_verdict asks) where
+      -- at most 32 asks
+      pub run_few : length asks / 2 ≤ 32
+      run_few = let few = (asks_passed asks (sym each)).2 in omega arith
+
+      -- lent memory's verdict
+      pub run_memory : (m : model.Verdict) → m ≡ memory_verdict (problem_of ws) (length asks / 2) table answers scratch
+          → m ≡ run_verdict ws asks table answers scratch
       unfolding run_verdict and_then
-      run_asks number place d =
-          let q : refused number place ≡ asks_verdict asks = rw d at asked in
-          rw (← file_passed, ← q)
-
-      module _ (d : a ≡ Accepted) where
-        each_passed : accepted ≡ asks_verdict asks
-        each_passed = rw d at asked
-
-        -- at most 32 asks
-        pub run_few : length asks / 2 ≤ 32
-        run_few = let few = (asks_passed asks (sym each_passed)).2 in omega arith
-
-        -- lent memory's verdict
-        pub run_memory : (m : model.Verdict) → m ≡ memory_verdict (problem_of ws) (length asks / 2) table answers scratch
-            → m ≡ run_verdict ws asks table answers scratch
-        unfolding run_verdict and_then
-        run_memory m is = rw (← file_passed, ← each_passed) is
+      run_memory m is = rw (← file, ← each) is
 
 -- ---- what has passed them
 
-module _ (ws asks : List ℕ) (table answers scratch : ℕ) (v : Verdict)
-    (said : verdict_of v ≡ run_verdict ws asks table answers scratch) (e : v ≡ Accepted) (l : Layout) (laid : l ≡ layout_of ws) where
+module _ (ws asks : List ℕ) (table answers scratch : ℕ) (passed : accepted ≡ run_verdict ws asks table answers scratch)
+    (l : Layout) (laid : l ≡ layout_of ws) where
   rest : model.Verdict
   unfolding and_then
   rest = and_then (asks_verdict asks) (memory_verdict (problem_of ws) (length asks / 2) table answers scratch)
 
   all_passed : and_then (read_of ws) rest ≡ accepted
   unfolding rest run_verdict
-  all_passed = let q : accepted ≡ run_verdict ws asks table answers scratch = rw e at said in sym q
+  all_passed = sym passed
 
   rest_passed : rest ≡ accepted
   rest_passed = second_passed (read_of ws) rest all_passed

@@ -6,10 +6,10 @@ ghost use Rattle.model.specs.Words.{VALUES, problem_of};
 ghost use Rattle.model.specs.Verdict.{first_fault};
 ghost use Rattle.model.specs.Refusal.{ask_fault, asks_verdict, memory_verdict, run_verdict};
 ghost use Rattle.model.specs.Asks.{ceiling_at, budget_at};
-ghost use Rattle.decoder.specs.Answers.{verdict_of};
+ghost use Rattle.decoder.specs.Answers.{fault_number, verdict_of};
 ghost use Rattle.instance.specs.Filed.{Filed};
 
-use decoder::Verdict;
+use decoder::{Fault, Refusal};
 use model::Layout;
 
 // ---- the words
@@ -32,53 +32,50 @@ pub fn budget(asks: &[u32], k: usize) -> u32
 
 // ---- what turns a run away
 
-// The fault of ask word q: 9 where it is not a ceiling or a budget, as its place wants, 10 for a budget of 0; 0 for none.
-fn ask_fault(asks: &[u32], q: usize) -> u32
+// What is wrong with ask word q: its kind, by its place that of a ceiling or of a budget, then a budget of 0.
+fn ask_fault(asks: &[u32], q: usize) -> Option<Fault>
     requires { q < length asks.now }
-    ensures { result ≡ ask_fault asks.now q }
+    ensures { fault_number result ≡ ask_fault asks.now q }
 {
     let word = asks[q];
     let part = q % 2;
     let kind = words::kind_of(word);
     if kind != 11 + part {
-        return 9;
+        return Some(Fault::WrongAskKind);
     }
     if part != 1 {
-        return 0;
+        return None;
     }
     if words::value_of(word) != 0 {
-        return 0;
+        return None;
     }
-    10
+    Some(Fault::NoBudget)
 }
 
 // The ask words one by one.
-fn each_verdict(asks: &[u32]) -> Verdict
+fn each_verdict(asks: &[u32]) -> Result<(), Refusal>
     ensures { verdict_of result ≡ first_fault (ask_fault asks.now) 0 (length asks.now) }
 {
-    let mut q = 0;
-    while q < asks.len() {
-        let fault = ask_fault(asks, q);
-        if fault != 0 {
-            return Verdict::Refused(fault, q);
+    for q in 0..asks.len() {
+        if let Some(fault) = ask_fault(asks, q) {
+            return Err(fault.at(q));
         }
-        q += 1;
     }
-    Verdict::Accepted
+    Ok(())
 }
 
-// The list of asks: 8 by its length, then word by word.
-fn asks_verdict(asks: &[u32]) -> Verdict
+// The list of asks: its length, then word by word.
+fn asks_verdict(asks: &[u32]) -> Result<(), Refusal>
     ensures { verdict_of result ≡ asks_verdict asks.now }
 {
     if asks.len() < 1 {
-        return Verdict::Refused(8, 0);
+        return Err(Fault::AskCount.at(0));
     }
     if asks.len() % 2 != 0 {
-        return Verdict::Refused(8, 0);
+        return Err(Fault::AskCount.at(0));
     }
     if 64 < asks.len() {
-        return Verdict::Refused(8, 0);
+        return Err(Fault::AskCount.at(0));
     }
     each_verdict(asks)
 }
@@ -91,7 +88,7 @@ fn scratch_wanted(u: usize) -> usize
     1 << u
 }
 
-// Lent memory for some asks, in number order: 13 the table, 14 the answers, 15 the scratch.
+// Lent memory for some asks: the table, the answers, the scratch.
 fn memory_verdict(
     words: &[u32],
     l: Layout,
@@ -99,24 +96,24 @@ fn memory_verdict(
     table: usize,
     answers: usize,
     scratch: usize,
-) -> Verdict
+) -> Result<(), Refusal>
     requires filed { Filed words.now l }
     requires asks_bound { asks ≤ 32 }
     ensures { verdict_of result ≡ memory_verdict (problem_of words.now) asks table answers scratch }
 {
     if table < 64 {
-        return Verdict::Refused(13, 0);
+        return Err(Fault::TableSize.at(0));
     }
     if 16384 < table {
-        return Verdict::Refused(13, 0);
+        return Err(Fault::TableSize.at(0));
     }
     if answers < asks * shape::block_size(l.units, l.weeks) {
-        return Verdict::Refused(14, 0);
+        return Err(Fault::AnswersTooShort.at(0));
     }
     if scratch < scratch_wanted(l.units) {
-        return Verdict::Refused(15, 0);
+        return Err(Fault::ScratchTooShort.at(0));
     }
-    Verdict::Accepted
+    Ok(())
 }
 
 // Every test of a run on any words: the file, then the asks, then lent memory by its numbers of words.
@@ -126,17 +123,11 @@ pub fn run_verdict(
     table: usize,
     answers: usize,
     scratch: usize,
-) -> Verdict
+) -> Result<(), Refusal>
     ensures { verdict_of result ≡ run_verdict words.now asks.now table answers scratch }
 {
-    let v = decoder::read(words);
-    if let Verdict::Refused(number, place) = v {
-        return Verdict::Refused(number, place);
-    }
-    let a = asks_verdict(asks);
-    if let Verdict::Refused(number, place) = a {
-        return Verdict::Refused(number, place);
-    }
+    decoder::read(words)?;
+    asks_verdict(asks)?;
     memory_verdict(
         words,
         instance::layout_of(words),

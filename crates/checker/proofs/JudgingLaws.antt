@@ -11,18 +11,13 @@ use Rattle.model.specs.Problem.{Problem}
 use Rattle.model.specs.Grid.{States, cell}
 use Rattle.model.specs.Rules.{broken, cost9}
 use Rattle.model.specs.Words.{layout_of, problem_of}
-use Rattle.model.specs.Verdict.{accepted, refused, and_then, first_fault}
+use Rattle.model.specs.Verdict.{Verdict, accepted, refused, and_then, first_fault}
 use Rattle.model.specs.Reading.{read_of}
 use Rattle.model.specs.Refusal.{cell_fault, grid_verdict}
-use Rattle.model.specs.Judgement.{sound_at, breaks, refused_grid, judgement, judge_of}
+use Rattle.model.specs.Judgement.{Judgement, sound_at, breaks, refused_grid, judgement, judge_of}
 use Rattle.model.proofs.VerdictLaws.{Onward, onward_fault, onward_next, accepted_cells}
 use Rattle.instance.specs.Filed.{Filed}
 use Rattle.instance.proofs.FiledLaws.{filed, cells_are}
-use Rattle.decoder.specs.Answers.{verdict_of}
-use Rattle.decoder.specs.declared.Verdict.{Verdict}
-use Rattle.decoder.specs.declared.Verdict.TheVariants.{Accepted, Refused}
-use Rattle.checker.specs.Answers.{judgement_of}
-use Rattle.checker.specs.declared.Judgement.{Judgement}
 use Rattle.checker.specs.Stated.{Stated}
 
 -- ---- 12, at the first byte above 2
@@ -47,8 +42,7 @@ module _ (ws g : List ℕ) (l : Layout) (f : Filed ws l) where
   length_fault n = simp (cells_are ws l f, ne_eqb (length g) (l.weeks * l.units) n)
 
   -- the bytes decide
-  pub length_right : (v : Verdict) → length g ≡ l.weeks * l.units → verdict_of v ≡ first_fault (cell_fault g) 0 (length g)
-      → verdict_of v ≡ grid_verdict (problem_of ws) g
+  pub length_right : (v : Verdict) → length g ≡ l.weeks * l.units → v ≡ first_fault (cell_fault g) 0 (length g) → v ≡ grid_verdict (problem_of ws) g
   unfolding grid_verdict
   length_right v e said = said ∙ simp (cells_are ws l f, eq-eqb (length g) (l.weeks * l.units) e)
 
@@ -65,43 +59,39 @@ module _ (p : Problem) (x : States) (rule : ℕ) (is : rule ≡ broken p x) wher
   unfolding judgement
   judged_sound cost e c = simp (← is, eq-eqb rule 0 e, ← c)
 
--- ---- an accepted file
+-- ---- the whole call
 
-module _ (ws g : List ℕ) (v : Verdict) (e : read_of ws ≡ accepted) (said : verdict_of v ≡ grid_verdict (problem_of ws) g) where
-  -- the grid is refused
-  pub grid_refused : (number place : ℕ) → v ≡ Refused number place → refused_grid number place ≡ judge_of ws g
-  unfolding judge_of and_then
-  grid_refused number place is = let q : refused number place ≡ grid_verdict (problem_of ws) g = rw is at said in rw (e, ← q)
-
-  module _ (l : Layout) (laid : l ≡ layout_of ws) (is : v ≡ Accepted) where
-    passes : grid_verdict (problem_of ws) g ≡ accepted
-    passes = sym (rw is at said)
-
-    -- so the grid has one of the three states for each week and unit
-    pub stated : Stated ws g l
-    stated =
-        let f = filed ws l e laid in
-        record {
-          grid = record {
-            filed = f;
-            full = (accepted_cells (problem_of ws) g passes).0 ∙ cells_are ws l f;
-          };
-          cells = rw (← f.units_are) (accepted_cells (problem_of ws) g passes).1;
-        }
-
-    -- and the judgement on its cells is the answer
-    pub grid_judged : (j : Judgement) → judgement_of j ≡ judgement (problem_of ws) (cell l.units g) → judgement_of j ≡ judge_of ws g
-    unfolding judge_of and_then
-    grid_judged j is = is ∙ rw (e, passes, (filed ws l e laid).units_are)
-
--- ---- any words
-
-module _ (ws g : List ℕ) (v : Verdict) (said : verdict_of v ≡ read_of ws) where
+module _ (ws g : List ℕ) where
   -- the file is refused
-  pub file_refused : (number place : ℕ) → v ≡ Refused number place → refused_grid number place ≡ judge_of ws g
+  pub file_refused : (number place : ℕ) → refused number place ≡ read_of ws → refused_grid number place ≡ judge_of ws g
   unfolding judge_of and_then
-  file_refused number place is = let q : refused number place ≡ read_of ws = rw is at said in rw (← q)
+  file_refused number place q = rw (← q)
 
-  -- or accepted
-  pub file_accepted : v ≡ Accepted → read_of ws ≡ accepted
-  file_accepted is = sym (rw is at said)
+  module _ (file : accepted ≡ read_of ws) where
+    -- or accepted
+    pub file_accepted : (l : Layout) → l ≡ layout_of ws → Filed ws l
+    file_accepted l laid = filed ws l (sym file) laid
+
+    -- the grid is refused
+    pub grid_refused : (number place : ℕ) → refused number place ≡ grid_verdict (problem_of ws) g → refused_grid number place ≡ judge_of ws g
+    unfolding judge_of and_then
+    grid_refused number place q = rw (← file, ← q)
+
+    module _ (l : Layout) (laid : l ≡ layout_of ws) (passes : accepted ≡ grid_verdict (problem_of ws) g) where
+      -- or has one of the three states for each week and unit
+      pub stated : Stated ws g l
+      stated =
+          let f = file_accepted l laid in
+          let cells = accepted_cells (problem_of ws) g (sym passes) in
+          record {
+            grid = record {
+              filed = f;
+              full = cells.0 ∙ cells_are ws l f;
+            };
+            cells = rw (← f.units_are) cells.1;
+          }
+
+      -- and the judgement on its cells is the answer
+      pub grid_judged : (j : Judgement) → j ≡ judgement (problem_of ws) (cell l.units g) → j ≡ judge_of ws g
+      unfolding judge_of and_then
+      grid_judged j is = is ∙ rw (← file, ← passes, (file_accepted l laid).units_are)

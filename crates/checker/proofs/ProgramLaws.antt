@@ -13,12 +13,7 @@ use Rattle.sums.specs.Logic.{if}
 use Rattle.model.specs.Bytes.{words_to, bytes_verdict, load_of, loaded_into, file_end}
 use Rattle.model.specs.Verdict as model
 use Rattle.model.specs.Judgement as judging
-use Rattle.decoder.specs.Answers.{figure_of}
-use Rattle.decoder.specs.declared.Figure.{Figure}
-use Rattle.decoder.specs.declared.Figure.TheVariants.{Number, Refused as RefusedFigure}
 use Rattle.input.proofs.LoadedLaws.{load_refused, load_accepted, load_front}
-use Rattle.checker.specs.Answers.{judgement_of}
-use Rattle.checker.specs.declared.Judgement.{Judgement}
 
 -- ---- the file's bytes as words
 
@@ -37,18 +32,15 @@ module _ (fs : List ℕ) (short : length fs ≤ 32768) (g : List ℕ) where
       go true = rw enough
       go false = refl
 
-  module _ (r : Figure) (said : figure_of r ≡ load_of fs 8192) where
-    -- the bytes are refused
-    pub bytes_refused : (number place : ℕ) → r ≡ RefusedFigure number place → judging.refused_grid number place ≡ judging.judge_bytes fs g
-    bytes_refused number place is = sym (bytes_verdict_lem ∙ rw (load_refused fs 8192 r said number place is))
+  -- the bytes are refused
+  pub bytes_refused : (number place : ℕ) → model.refused_figure number place ≡ load_of fs 8192 → judging.refused_grid number place ≡ judging.judge_bytes fs g
+  bytes_refused number place q = sym (bytes_verdict_lem ∙ rw (load_refused fs 8192 number place q))
 
-    -- the words loaded are the file
-    pub bytes_judged : (n : ℕ) → r ≡ Number n → (words ws front : List ℕ) (j : Judgement) → ws ≡ loaded_into (figure_of r) fs words → front ≡ take n ws
-        → judgement_of j ≡ judging.judge_of front g → judgement_of j ≡ judging.judge_bytes fs g
-    bytes_judged n is words ws front j left cut e =
-        e
-        ∙ ap (λ (x : List ℕ). judging.judge_of x g) (load_front fs 8192 r said n is words ws front left cut)
-        ∙ sym (bytes_verdict_lem ∙ rw (load_accepted fs 8192 r said n is))
+  -- the words loaded are the file
+  pub bytes_judged : (n : ℕ) (words ws front : List ℕ) (j : judging.Judgement) → model.gives n ≡ load_of fs 8192 → ws ≡ loaded_into (model.gives n) fs words
+      → front ≡ take n ws → j ≡ judging.judge_of front g → j ≡ judging.judge_bytes fs g
+  bytes_judged n words ws front j q left cut e =
+      e ∙ ap (λ (x : List ℕ). judging.judge_of x g) (load_front fs 8192 n q words ws front left cut) ∙ sym (bytes_verdict_lem ∙ rw (load_accepted fs 8192 n q))
 
 -- ---- the whole input
 
@@ -68,8 +60,8 @@ module _ (bs : List ℕ) where
 
   module _ (end : ℕ) (is : end ≡ file_end bs) where
     -- short enough: the file's bytes, then the grid's
-    pub input_judged : (j : Judgement) → length bs ≤ 32768 → judgement_of j ≡ judging.judge_bytes (take end bs) (take (length bs - end) (drop end bs))
-        → judgement_of j ≡ judging.judge_input bs
+    pub input_judged : (j : judging.Judgement) → length bs ≤ 32768 → j ≡ judging.judge_bytes (take end bs) (take (length bs - end) (drop end bs))
+        → j ≡ judging.judge_input bs
     unfolding judging.judge_input
     input_judged j h e = e ∙ rw (is, rest) (simp (le-leb (length bs) 32768 h))
       where

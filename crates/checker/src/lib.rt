@@ -1,31 +1,29 @@
-// The judge of a grid: sound at its cost, or the smallest number among the formulas broken, or turned away under one number with a place.
+// The judge of a grid: sound at its cost, or the smallest number among the formulas broken, or turned away by a refusal.
 #![tactic(auto)]
 
 ghost use Rattle.std.specs.Prelude.{◌<◌, ◌≤◌, ◌≡◌, length};
 ghost use Rattle.model.specs.Words.{VALUES, problem_of};
 ghost use Rattle.model.specs.Grid.{cell};
 ghost use Rattle.model.specs.Rules.{charge, week_cost, cost9};
-ghost use Rattle.model.specs.Verdict.{accepted, first_fault};
-ghost use Rattle.model.specs.Reading.{read_of};
+ghost use Rattle.model.specs.Verdict.{first_fault};
 ghost use Rattle.model.specs.Refusal.{cell_fault, grid_verdict};
 ghost use Rattle.model.specs.Judgement.{judgement, judge_of, judge_bytes, judge_input};
 ghost use Rattle.model.specs.Lines.{judgement_text, Written};
 ghost use Rattle.instance.specs.Filed.{Filed};
 ghost use Rattle.instance.specs.Tables.{maints_of, runnings_of, table_for, row_of};
 ghost use Rattle.decoder.specs.Answers.{verdict_of};
-ghost use Rattle.checker.specs.Answers.{judgement_of};
+ghost use Rattle.checker.specs.Answers.{judged_of, judgement_of};
 ghost use Rattle.checker.specs.Stated.{Stated};
 
-use decoder::Verdict;
+use decoder::{Fault, Refusal};
 use instance::Euro;
 use model::Layout;
 
-// A grid is sound at a cost, breaks a formula, or is turned away under a number at a place.
-#[derive(Clone, Copy)]
+// A grid is sound at a cost, or breaks a formula.
+#[derive(Clone, Copy, Debug, PartialEq, Eq)]
 pub enum Judgement {
     Sound(u64),
     Breaks(u32),
-    Refused(u32, usize),
 }
 
 // ---- formula (9)
@@ -86,27 +84,25 @@ fn grid_cost(words: &[u32], grid: &[u8], l: Layout) -> Euro
 
 // ---- the grid's own refusals
 
-// 12 at the first byte above 2.
-fn cells_verdict(grid: &[u8]) -> Verdict
+// The first byte above 2.
+fn cells_verdict(grid: &[u8]) -> Result<(), Refusal>
     ensures { verdict_of result ≡ first_fault (cell_fault grid.now) 0 (length grid.now) }
 {
-    let mut q = 0;
-    while q < grid.len() {
+    for q in 0..grid.len() {
         if 2 < grid[q] {
-            return Verdict::Refused(12, q);
+            return Err(Fault::BadCell.at(q));
         }
-        q += 1;
     }
-    Verdict::Accepted
+    Ok(())
 }
 
-// 11 where the grid has not a byte for each week and unit, then 12.
-fn grid_verdict(words: &[u32], grid: &[u8], l: Layout) -> Verdict
+// A byte for each week and unit, then the bytes one by one.
+fn grid_verdict(words: &[u32], grid: &[u8], l: Layout) -> Result<(), Refusal>
     requires { Filed words.now l }
     ensures { verdict_of result ≡ grid_verdict (problem_of words.now) grid.now }
 {
     if grid.len() != l.weeks * l.units {
-        return Verdict::Refused(11, 0);
+        return Err(Fault::GridSize.at(0));
     }
     cells_verdict(grid)
 }
@@ -116,61 +112,43 @@ fn grid_verdict(words: &[u32], grid: &[u8], l: Layout) -> Verdict
 // The judgement on a grid of the three states: the smallest broken number, or the cost.
 fn judge_cells(words: &[u32], grid: &[u8], l: Layout) -> Judgement
     requires { Stated words.now grid.now l }
-    ensures { judgement_of result ≡ judgement (problem_of words.now) (cell l.units grid.now) }
+    ensures { judged_of result ≡ judgement (problem_of words.now) (cell l.units grid.now) }
 {
     let rule = rules::broken(words, grid, l);
     if rule != 0 {
         return Judgement::Breaks(rule);
     }
-    let cost = grid_cost(words, grid, l);
-    Judgement::Sound(cost.0)
-}
-
-// The judgement on any bytes as a grid of an accepted file.
-fn judge_filed(words: &[u32], grid: &[u8]) -> Judgement
-    requires { read_of words.now ≡ accepted }
-    ensures { judgement_of result ≡ judge_of words.now grid.now }
-{
-    let l = instance::layout_of(words);
-    let v = grid_verdict(words, grid, l);
-    match v {
-        Verdict::Refused(number, place) => Judgement::Refused(number, place),
-        Verdict::Accepted => judge_cells(words, grid, l),
-    }
+    Judgement::Sound(grid_cost(words, grid, l).0)
 }
 
 // The judgement on any words as a plan file and any bytes as a grid.
-pub fn judge(words: &[u32], grid: &[u8]) -> Judgement
+pub fn judge(words: &[u32], grid: &[u8]) -> Result<Judgement, Refusal>
     ensures { judgement_of result ≡ judge_of words.now grid.now }
 {
-    let v = decoder::read(words);
-    match v {
-        Verdict::Refused(number, place) => Judgement::Refused(number, place),
-        Verdict::Accepted => judge_filed(words, grid),
-    }
+    decoder::read(words)?;
+    let l = instance::layout_of(words);
+    grid_verdict(words, grid, l)?;
+    Ok(judge_cells(words, grid, l))
 }
 
 // ---- the judge's program
 
-// The judgement on a file's bytes and a grid. The words have room for the longest input, so 17 never comes from here.
-fn judge_bytes(file: &[u8], grid: &[u8]) -> Judgement
+// The judgement on a file's bytes and a grid. The words have room for the longest input, so `TooFewWords` never comes from here.
+fn judge_bytes(file: &[u8], grid: &[u8]) -> Result<Judgement, Refusal>
     requires { length file.now ≤ 32768 }
     ensures { judgement_of result ≡ judge_bytes file.now grid.now }
 {
     let mut words = [0u32; 8192];
-    let loaded = decoder::load(file, &mut words);
-    match loaded {
-        decoder::Figure::Refused(number, place) => Judgement::Refused(number, place),
-        decoder::Figure::Number(n) => judge(input::front(&words, n), grid),
-    }
+    let n = decoder::load(file, &mut words)?;
+    judge(input::front(&words, n), grid)
 }
 
 // The judgement on a program's input: a file's bytes up to and with its end word, then a grid's (D44).
-pub fn judge_input(bytes: &[u8]) -> Judgement
+pub fn judge_input(bytes: &[u8]) -> Result<Judgement, Refusal>
     ensures { judgement_of result ≡ judge_input bytes.now }
 {
     if 32768 < bytes.len() {
-        return Judgement::Refused(17, 0);
+        return Err(Fault::TooFewWords.at(0));
     }
     let end = input::file_end(bytes);
     judge_bytes(&bytes[..end], &bytes[end..])
@@ -181,10 +159,9 @@ pub fn judge_text(bytes: &[u8], text: &mut [u8]) -> usize
     requires { 50 ≤ length text.old }
     ensures { Written (judgement_text (judge_input bytes.now)) text.old text.new result }
 {
-    let judgement = judge_input(bytes);
-    match judgement {
-        Judgement::Sound(cost) => report::put_sound(text, cost),
-        Judgement::Breaks(formula) => report::put_rule(text, formula),
-        Judgement::Refused(number, place) => report::put_refusal(text, number, place),
+    match judge_input(bytes) {
+        Ok(Judgement::Sound(cost)) => report::put_sound(text, cost),
+        Ok(Judgement::Breaks(formula)) => report::put_rule(text, formula),
+        Err(refusal) => report::put_refusal(text, refusal.fault.number(), refusal.place),
     }
 }

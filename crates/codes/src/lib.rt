@@ -8,75 +8,85 @@ ghost use Rattle.checker.specs.Answers.{judgement_of};
 ghost use Rattle.quotes.specs.Answers.{quoted_of};
 ghost use Rattle.codes.specs.Codes.{refused_by, refused_at, figure_refused_by, given, judged_code, judged_place, quoted_code};
 
+use checker::Judgement;
+use decoder::Refusal;
+use quotes::Quote;
+
 // The number of a verdict's refusal.
-pub fn refusal_number(v: decoder::Verdict) -> u32
+#[tactic(auto, unfolding(crate::specs::Codes::refused_by))]
+pub fn refusal_number(v: Result<(), Refusal>) -> u32
     ensures { result ≡ refused_by (verdict_of v) }
 {
     match v {
-        decoder::Verdict::Accepted => 0,
-        decoder::Verdict::Refused(number, place) => number,
+        Ok(()) => 0,
+        Err(refusal) => refusal.fault.number(),
     }
 }
 
 // The place of a verdict's refusal.
-pub fn refusal_place(v: decoder::Verdict) -> usize
+#[tactic(auto, unfolding(crate::specs::Codes::refused_at))]
+pub fn refusal_place(v: Result<(), Refusal>) -> usize
     ensures { result ≡ refused_at (verdict_of v) }
 {
     match v {
-        decoder::Verdict::Accepted => 0,
-        decoder::Verdict::Refused(number, place) => place,
+        Ok(()) => 0,
+        Err(refusal) => refusal.place,
     }
 }
 
 // The number of a reply's refusal.
-pub fn figure_refusal(reply: decoder::Figure) -> u32
+#[tactic(auto, unfolding(crate::specs::Codes::figure_refused_by))]
+pub fn figure_refusal(reply: Result<usize, Refusal>) -> u32
     ensures { result ≡ figure_refused_by (figure_of reply) }
 {
     match reply {
-        decoder::Figure::Number(n) => 0,
-        decoder::Figure::Refused(number, place) => number,
+        Ok(_) => 0,
+        Err(refused) => refused.fault.number(),
     }
 }
 
 // The number that a reply gives, 0 where it is a refusal.
-pub fn number_given(reply: decoder::Figure) -> usize
+#[tactic(auto, unfolding(crate::specs::Codes::given))]
+pub fn number_given(reply: Result<usize, Refusal>) -> usize
     ensures { result ≡ given (figure_of reply) }
 {
     match reply {
-        decoder::Figure::Number(n) => n,
-        decoder::Figure::Refused(number, place) => 0,
+        Ok(n) => n,
+        Err(_) => 0,
     }
 }
 
 // A judgement as one number (D36).
-pub fn judgement_code(j: checker::Judgement) -> u64
-    ensures { result ≡ judged_code (judgement_of j) }
+#[tactic(auto, unfolding(crate::specs::Codes::judged_code))]
+pub fn judgement_code(judged: Result<Judgement, Refusal>) -> u64
+    ensures { result ≡ judged_code (judgement_of judged) }
 {
-    match j {
-        checker::Judgement::Sound(cost) => cost,
-        checker::Judgement::Breaks(number) => 4294967296 + number as u64,
-        checker::Judgement::Refused(number, place) => 8589934592 + number as u64,
+    match judged {
+        Ok(Judgement::Sound(cost)) => cost,
+        Ok(Judgement::Breaks(formula)) => 4294967296 + u64::from(formula),
+        Err(refusal) => 8589934592 + u64::from(refusal.fault.number()),
     }
 }
 
 // The place of a judgement's refusal.
-pub fn judgement_place(j: checker::Judgement) -> usize
-    ensures { result ≡ judged_place (judgement_of j) }
+#[tactic(auto, unfolding(crate::specs::Codes::judged_place))]
+pub fn judgement_place(judged: Result<Judgement, Refusal>) -> usize
+    ensures { result ≡ judged_place (judgement_of judged) }
 {
-    match j {
-        checker::Judgement::Sound(cost) => 0,
-        checker::Judgement::Breaks(number) => 0,
-        checker::Judgement::Refused(number, place) => place,
+    match judged {
+        Ok(Judgement::Sound(_) | Judgement::Breaks(_)) => 0,
+        Err(refused) => refused.place,
     }
 }
 
 // A quote as one number.
-pub fn quote_code(quote: quotes::Quote) -> u64
-    ensures { result ≡ quoted_code (quoted_of quote) }
+#[tactic(auto, unfolding(crate::specs::Codes::quoted_code))]
+pub fn quote_code(quoted: Result<Option<Quote>, Refusal>) -> u64
+    ensures { result ≡ quoted_code (quoted_of quoted) }
 {
-    match quote {
-        quotes::Quote::Nothing => 4611686018427387904,
-        quotes::Quote::Given(number, cost) => cost as u64 * 4294967296 + number as u64,
-        quotes::Quote::Refused(number, place) => 9223372036854775808 + number as u64,
+    match quoted {
+        Ok(None) => 4611686018427387904,
+        Ok(Some(quote)) => u64::from(quote.cost) * 4294967296 + u64::from(quote.number),
+        Err(refusal) => 9223372036854775808 + u64::from(refusal.fault.number()),
     }
 }

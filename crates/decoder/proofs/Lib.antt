@@ -1,3 +1,5 @@
+-- the numbers of faults
+pub mod FaultLaws
 -- the arms of the match over kinds: the test of the value
 pub mod ArmLaws
 -- and the next stage

@@ -1,6 +1,6 @@
 -- The reader's steps, every premise as the loops have it: past a word of the same stage, to a refusal, or to the end word.
 -- Assumes nothing.
-use Rattle.std.proofs.Common.{◌≡◌, ℕ, suc, ◌+◌, ◌-◌, ◌*◌, ◌%◌, ◌^◌, ◌<◌, ◌≤◌, min, Bool, true, false, not, ◌&&◌, eqb, ltb, List, length, get_or, sym, refl, ap, ◌∙◌, ⊎_elim, arith, ltb-true, le-ltb, lt-ltb, eq-eqb, ne_eqb, eqb-true}
+use Rattle.std.proofs.Common.{◌≡◌, ℕ, suc, ◌+◌, ◌-◌, ◌*◌, ◌%◌, ◌^◌, ◌<◌, ◌≤◌, min, Option, is_some, Bool, true, false, not, ◌&&◌, eqb, ltb, List, length, get_or, sym, refl, ap, ◌∙◌, ⊎_elim, arith, ltb-true, le-ltb, lt-ltb, eq-eqb, ne_eqb, eqb-true}
 use borrow.Author.Tests.{eqb-false}
 use Rattle.sums.specs.Logic.{if}
 use Rattle.sums.proofs.LogicLaws.{true_false, and_left, and_right, not_at}
@@ -10,6 +10,9 @@ use Rattle.model.specs.Verdict.{accepted, refused}
 use Rattle.model.specs.Reading.{due_at, pair_fault, value_fault, fault_for, fault_at, read_from, read_of}
 use Rattle.model.proofs.ReadingLaws.{layout_laid, due_pair, kind_fits}
 use Rattle.decoder.proofs.StageLaws.{clear_due}
+use Rattle.decoder.specs.declared.faults.Fault.{Fault}
+use Rattle.decoder.specs.Answers.{number_of, fault_number}
+use Rattle.decoder.proofs.FaultLaws.{number_some, number_none}
 use Rattle.decoder.specs.Stages.{Onward, as_pair, Passes, open_at, Clear, Passed}
 
 -- ---- the word at a place
@@ -56,27 +59,11 @@ module _ (ws : List ℕ) (q : ℕ) where
   unfolding open_at
   open_ended h = simp (le-ltb q (length ws) h)
 
-  module _ (h : q < length ws) (f : ℕ) (is : f ≡ fault_at ws q) where
-    -- the word has a fault
-    pub open_fault : (f ≡ 0 → ⊥) → false ≡ open_at ws q
-    unfolding open_at
-    open_fault some = simp (lt-ltb q (length ws) h, ← is, ne_eqb f 0 some)
-
-    module _ (none : f ≡ 0) (k : ℕ) (kind : k ≡ kind_of (get_or ws q 0)) where
-      -- it is the end word
-      pub open_end : k ≡ 15 → false ≡ open_at ws q
-      unfolding open_at kind_at
-      open_end e = simp (lt-ltb q (length ws) h, ← is, eq-eqb f 0 none, ← kind, eq-eqb k 15 e)
-
-      -- it is neither
-      pub open_passed : (k ≡ 15 → ⊥) → true ≡ open_at ws q
-      unfolding open_at kind_at
-      open_passed e = simp (lt-ltb q (length ws) h, ← is, eq-eqb f 0 none, ← kind, ne_eqb k 15 e)
-
+  module _ (h : q < length ws) where
     -- a word without a fault at which the reader does not go on is the end word
-    shut_end : open_at ws q ≡ false → f ≡ 0 → kind_at ws q ≡ 15
+    shut_end : open_at ws q ≡ false → 0 ≡ fault_at ws q → kind_at ws q ≡ 15
     unfolding open_at
-    shut_end e none = eqb-true (kind_at ws q) 15 (go (eqb (kind_at ws q) 15) (sym (simp (lt-ltb q (length ws) h, ← is, eq-eqb f 0 none)) ∙ e))
+    shut_end e none = eqb-true (kind_at ws q) 15 (go (eqb (kind_at ws q) 15) (sym (simp (lt-ltb q (length ws) h, ← none)) ∙ e))
       where
         go : (b : Bool) → not b ≡ false → b ≡ true
         go true _ = refl
@@ -188,7 +175,7 @@ pair_stands l p prev word e = go (eqb (kind_of word) 10) refl e
     go true q h = (eqb-true (kind_of word) 10 q, h)
     go false q h = absurd (omega arith)
 
-module _ (ws : List ℕ) (l : Layout) (q p prev f : ℕ) (laid : l ≡ layout_of ws) (from : l.pairs ≤ q) (on : q < p) where
+module _ (ws : List ℕ) (l : Layout) (q p prev : ℕ) (laid : l ≡ layout_of ws) (from : l.pairs ≤ q) (on : q < p) where
   -- and passes
   pair_passes : prev ≡ value_at ws (p - 1) → as_pair l p prev (get_or ws p 0) ≡ 0 → Passes ws p
   unfolding fault_at kind_at value_at value_fault
@@ -202,8 +189,9 @@ module _ (ws : List ℕ) (l : Layout) (q p prev f : ℕ) (laid : l ≡ layout_of
 
   -- one pair more
   pub pairs_next : read_from ws (q + 1) (length ws - (q + 1)) ≡ read_from ws p (length ws - p) → p < length ws → prev ≡ value_at ws (p - 1)
-      → f ≡ as_pair l p prev (get_or ws p 0) → f ≡ 0 → read_from ws (q + 1) (length ws - (q + 1)) ≡ read_from ws (p + 1) (length ws - (p + 1))
-  pairs_next same h ep is none = same ∙ step_next ws p h (pair_passes ep (sym is ∙ none))
+      → (fault : Option Fault) (some : Bool) → fault_number fault ≡ as_pair l p prev (get_or ws p 0) → some ≡ is_some fault → some ≡ false
+      → read_from ws (q + 1) (length ws - (q + 1)) ≡ read_from ws (p + 1) (length ws - (p + 1))
+  pairs_next same h ep fault some is told none = same ∙ step_next ws p h (pair_passes ep (sym is ∙ number_none fault (sym told ∙ none)))
 
 -- the word passed is the one before the next
 pub prev_next : (ws : List ℕ) (p v : ℕ) → v ≡ value_of (get_or ws p 0) → v ≡ value_at ws (p + 1 - 1)
@@ -232,16 +220,16 @@ module _ (ws : List ℕ) (q : ℕ) where
   unfolding read_from
   ended_out h = let e : length ws - q ≡ 0 = omega arith in sym (ap (read_from ws q) e)
 
-  module _ (h : q < length ws) (f : ℕ) (is : f ≡ fault_at ws q) where
+  module _ (h : q < length ws) where
     -- the word at q is refused
-    pub ended_fault : (f ≡ 0 → ⊥) → refused f q ≡ read_from ws q (length ws - q)
-    ended_fault some = sym (step_fault ws q h f is some)
+    pub ended_fault : (fault : Fault) → number_of fault ≡ fault_at ws q → refused (number_of fault) q ≡ read_from ws q (length ws - q)
+    ended_fault fault is = sym (step_fault ws q h (number_of fault) is (number_some fault))
 
-    module _ (shut : open_at ws q ≡ false) (none : f ≡ 0) where
+    module _ (shut : open_at ws q ≡ false) (none : 0 ≡ fault_at ws q) where
       -- the end word is the last
       pub ended_last : q + 1 ≡ length ws → accepted ≡ read_from ws q (length ws - q)
-      ended_last e = sym (step_end ws q h (sym is ∙ none) (shut_end ws q h f is shut none) e)
+      ended_last e = sym (step_end ws q h (sym none) (shut_end ws q h shut none) e)
 
       -- words stand after the end word
       pub ended_more : (q + 1 ≡ length ws → ⊥) → refused 7 (q + 1) ≡ read_from ws q (length ws - q)
-      ended_more e = sym (step_more ws q h (sym is ∙ none) (shut_end ws q h f is shut none) e)
+      ended_more e = sym (step_more ws q h (sym none) (shut_end ws q h shut none) e)

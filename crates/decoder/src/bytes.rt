@@ -3,7 +3,7 @@ ghost use Rattle.std.specs.Prelude.{◌≡◌, ◌+◌, ◌<◌, length};
 ghost use Rattle.model.specs.Bytes.{word_from, load_of, loaded_into};
 ghost use Rattle.decoder.specs.Answers.{figure_of};
 
-use crate::Figure;
+use crate::{Fault, Refusal};
 
 // A byte as a part of a word.
 fn widen_byte(byte: u8) -> u32
@@ -24,19 +24,19 @@ pub fn word_from(bytes: &[u8], q: usize) -> u32
 }
 
 // Writes the words of the bytes into the lent words and says how many, or refuses and changes nothing.
-pub fn load(bytes: &[u8], words: &mut [u32]) -> Figure
+pub fn load(bytes: &[u8], words: &mut [u32]) -> Result<usize, Refusal>
     ensures answer { figure_of result ≡ load_of bytes.now (length words.old) }
     ensures buffer { words.new ≡ loaded_into (figure_of result) bytes.now words.old }
 {
     if bytes.len() % 4 != 0 {
-        return Figure::Refused(16, 0);
+        return Err(Fault::UnevenBytes.at(0));
     }
     let n = bytes.len() / 4;
     if words.len() < n {
-        return Figure::Refused(17, 0);
+        return Err(Fault::TooFewWords.at(0));
     }
     for k in 0..n {
         words[k] = word_from(bytes, k * 4);
     }
-    Figure::Number(n)
+    Ok(n)
 }

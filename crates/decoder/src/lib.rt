@@ -1,55 +1,32 @@
-// Words read, or refused under one number with the place of the first fault. `bytes` makes words of bytes, `stages` has what a word's kind and place
-// settle, and here is the reader: start at `read`.
+// Words read, or refused with the first fault and its place. `bytes` makes words of bytes, `stages` has what a word's kind and place
+// settle, `faults` why input is turned away, and here is the reader: start at `read`.
 #![tactic(auto)]
 
 ghost use Rattle.std.specs.Prelude.{◌≡◌, ◌-◌, ◌<◌, true, false, length};
 ghost use Rattle.model.specs.Reading.{fault_at, read_from, read_of};
 ghost use Rattle.decoder.specs.Stages.{open_at, Passed};
-ghost use Rattle.decoder.specs.Answers.{verdict_of};
+ghost use Rattle.decoder.specs.Answers.{fault_number, verdict_of};
 
 pub use bytes::{load, word_from};
+pub use faults::{Fault, Refusal};
 
 mod bytes;
+mod faults;
 mod stages;
 
-// A plan file is accepted, or refused under a number at a place.
-#[derive(Clone, Copy)]
-pub enum Verdict {
-    Accepted,
-    Refused(u32, usize),
-}
-
-// One number, or a refusal.
-#[derive(Clone, Copy)]
-pub enum Figure {
-    Number(usize),
-    Refused(u32, usize),
-}
-
-// The refusal that the word at place q deserves, 0 for none.
-fn fault_at(words: &[u32], q: usize) -> u32
+// What is wrong with the word at place q.
+fn fault_at(words: &[u32], q: usize) -> Option<Fault>
     requires { q < length words.now }
-    ensures { result ≡ fault_at words.now q }
+    ensures { fault_number result ≡ fault_at words.now q }
 {
-    let l = instance::layout_of(words);
-    let s = stages::stage_at(words, l, q);
-    s.fault
+    stages::stage_at(words, instance::layout_of(words), q).fault
 }
 
 // Whether a reader goes on from place q: a word stands there, without a fault, and it is not the end word.
 fn open_at(words: &[u32], q: usize) -> bool
     ensures { result ≡ open_at words.now q }
 {
-    if words.len() <= q {
-        return false;
-    }
-    if fault_at(words, q) != 0 {
-        return false;
-    }
-    if words::kind_of(words[q]) == 15 {
-        return false;
-    }
-    true
+    q < words.len() && fault_at(words, q).is_none() && words::kind_of(words[q]) != 15
 }
 
 // The place to which a reader goes on from place q: behind the word there and those that follow in its stage without a fault.
@@ -63,21 +40,20 @@ fn next_at(words: &[u32], q: usize) -> usize
 }
 
 // The verdict of a reader that has come to place q and does not go on (D9).
-fn verdict_at(words: &[u32], q: usize) -> Verdict
+fn verdict_at(words: &[u32], q: usize) -> Result<(), Refusal>
     requires { open_at words.now q ≡ false }
     ensures { verdict_of result ≡ read_from words.now q (length words.now - q) }
 {
     if words.len() <= q {
-        return Verdict::Refused(1, q);
+        return Err(Fault::WrongKind.at(q));
     }
-    let fault = fault_at(words, q);
-    if fault != 0 {
-        return Verdict::Refused(fault, q);
+    if let Some(fault) = fault_at(words, q) {
+        return Err(fault.at(q));
     }
     if q + 1 == words.len() {
-        return Verdict::Accepted;
+        return Ok(());
     }
-    Verdict::Refused(7, q + 1)
+    Err(Fault::WordsAfterEnd.at(q + 1))
 }
 
 // A reader: the lent words, and the place at which it stands. Its methods only take it apart; the functions above, on slice and number, do
@@ -123,7 +99,7 @@ impl<'a> Reader<'a> {
 }
 
 // The verdict on any words as a plan file: a reader walks from the first word to the end word, or to a fault.
-pub fn read(words: &[u32]) -> Verdict
+pub fn read(words: &[u32]) -> Result<(), Refusal>
     ensures { verdict_of result ≡ read_of words.now }
 {
     let mut r = Reader::new(words);

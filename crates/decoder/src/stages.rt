@@ -2,15 +2,17 @@
 ghost use Rattle.std.specs.Prelude.{◌≡◌, ◌+◌, ◌-◌, ◌*◌, ◌^◌, ◌<◌, ◌≤◌, length};
 ghost use Rattle.model.specs.Words.{VALUES, kind_of, kind_at, value_at, Laid, layout_of};
 ghost use Rattle.model.specs.Reading.{due_at, within, window_fault, pair_fault, end_fault, value_fault, fault_for, fault_at};
+ghost use Rattle.decoder.specs.Answers.{fault_number};
 ghost use Rattle.decoder.specs.Stages.{Onward, as_pair, Clear, Passed};
 
+use crate::Fault;
 use model::{Layout, VALUES};
 
-// What a word's kind and place settle: the refusal that its value deserves, 0 for none, and the place up to which words of the same kind
-// follow that may hold any value from 0 to `most`. There the next stage begins.
+// What a word's kind and place settle: what is wrong with its value, and the place up to which words of the same kind follow that may hold
+// any value from 0 to `most`. There the next stage begins.
 #[derive(Clone, Copy)]
 pub struct Stage {
-    pub fault: u32,
+    pub fault: Option<Fault>,
     pub most: u32,
     pub next: usize,
 }
@@ -40,82 +42,79 @@ fn due_at(l: Layout, q: usize) -> usize
     10
 }
 
-// Refusal 2 outside lo to hi.
-fn range(lo: usize, hi: usize, v: usize) -> u32
-    ensures { result ≡ within lo hi v }
+// Outside lo to hi.
+fn range(lo: usize, hi: usize, v: usize) -> Option<Fault>
+    ensures { fault_number result ≡ within lo hi v }
 {
-    if v < lo {
-        return 2;
+    if lo <= v && v <= hi {
+        return None;
     }
-    if hi < v {
-        return 2;
-    }
-    0
+    Some(Fault::OutOfRange)
 }
 
-// A window: 2 where an end lies outside the season, then 3 where the latest is before the earliest.
-fn window_fault(l: Layout, v: usize) -> u32
-    ensures { result ≡ window_fault l v }
+// A window: an end outside the season, then the latest before the earliest.
+fn window_fault(l: Layout, v: usize) -> Option<Fault>
+    ensures { fault_number result ≡ window_fault l v }
 {
     let earliest = v / 64;
     let latest = v % 64;
     if earliest < 1 {
-        return 2;
+        return Some(Fault::OutOfRange);
     }
     if l.weeks < earliest {
-        return 2;
+        return Some(Fault::OutOfRange);
     }
     if latest < 1 {
-        return 2;
+        return Some(Fault::OutOfRange);
     }
     if l.weeks < latest {
-        return 2;
+        return Some(Fault::OutOfRange);
     }
     if latest < earliest {
-        return 3;
+        return Some(Fault::LatestBeforeEarliest);
     }
-    0
+    None
 }
 
-// A pair after a word of value prev: 4, then 5 for a 121st.
-fn pair_fault(l: Layout, q: usize, prev: usize, v: usize) -> u32
-    ensures { result ≡ pair_fault l q prev v }
+// A pair after a word of value prev: no pair of two units, or not above the one before; then a 121st.
+fn pair_fault(l: Layout, q: usize, prev: usize, v: usize) -> Option<Fault>
+    ensures { fault_number result ≡ pair_fault l q prev v }
 {
     let a = v / 32;
     let b = v % 32;
     if a < 1 {
-        return 4;
+        return Some(Fault::BadPair);
     }
     if b <= a {
-        return 4;
+        return Some(Fault::BadPair);
     }
     if l.units < b {
-        return 4;
+        return Some(Fault::BadPair);
     }
     if q <= l.pairs {
-        return 0;
+        return None;
     }
     if v <= prev {
-        return 4;
+        return Some(Fault::BadPair);
     }
     if q - l.pairs < 120 {
-        return 0;
+        return None;
     }
-    5
+    Some(Fault::TooManyPairs)
 }
 
 // The end word says how many words stand before it.
-fn end_fault(q: usize, v: usize) -> u32
-    ensures { result ≡ end_fault q v }
+fn end_fault(q: usize, v: usize) -> Option<Fault>
+    ensures { fault_number result ≡ end_fault q v }
 {
     if v == q {
-        return 0;
+        return None;
     }
-    6
+    Some(Fault::BadEnd)
 }
 
 // A stage of one word: the next begins after it.
-fn single_word(fault: u32, q: usize) -> Stage
+fn single_word(fault: Option<Fault>, q: usize) -> Stage
     requires { q + 1 < 2 ^ 64 }
     ensures { (result.fault ≡ fault) × (result.most ≡ 0) × (result.next ≡ q + 1) }
 {
@@ -128,7 +127,7 @@ fn single_word(fault: u32, q: usize) -> Stage
 
 // A stage of words that may hold anything from 0 to most, up to the place next.
 fn section(most: u32, next: usize, v: usize) -> Stage
-    ensures { (result.fault ≡ within 0 most v) × (result.most ≡ most) × (result.next ≡ next) }
+    ensures { (fault_number result.fault ≡ within 0 most v) × (result.most ≡ most) × (result.next ≡ next) }
 {
     let fault = range(0, words::widen(most), v);
     Stage { fault, most, next }
@@ -138,7 +137,7 @@ fn section(most: u32, next: usize, v: usize) -> Stage
 fn stage_of(l: Layout, q: usize, prev: usize, k: usize, v: usize) -> Stage
     requires laid { Laid l }
     requires q_bound { q + 1 < 2 ^ 64 }
-    ensures test { result.fault ≡ value_fault l q prev k v }
+    ensures test { fault_number result.fault ≡ value_fault l q prev k v }
     ensures onward { Onward l q k result.most result.next }
 {
     match k {
@@ -153,15 +152,15 @@ fn stage_of(l: Layout, q: usize, prev: usize, k: usize, v: usize) -> Stage
         9 => section(250000, l.offs, v),
         10 => single_word(pair_fault(l, q, prev, v), q),
         15 => single_word(end_fault(q, v), q),
-        _ => single_word(1, q),
+        _ => single_word(Some(Fault::WrongKind), q),
     }
 }
 
-// The kind first, refusal 1 where another is due; then the value.
+// The kind first, then the value.
 fn stage_for(l: Layout, q: usize, prev: usize, k: usize, v: usize) -> Stage
     requires laid { Laid l }
     requires q_bound { q + 1 < 2 ^ 64 }
-    ensures test { result.fault ≡ fault_for l q prev k v }
+    ensures test { fault_number result.fault ≡ fault_for l q prev k v }
     ensures onward { Onward l q k result.most result.next }
 {
     let due = due_at(l, q);
@@ -169,10 +168,10 @@ fn stage_for(l: Layout, q: usize, prev: usize, k: usize, v: usize) -> Stage
         return stage_of(l, q, prev, k, v);
     }
     if due != 10 {
-        return single_word(1, q);
+        return single_word(Some(Fault::WrongKind), q);
     }
     if k != 15 {
-        return single_word(1, q);
+        return single_word(Some(Fault::WrongKind), q);
     }
     stage_of(l, q, prev, k, v)
 }
@@ -190,7 +189,7 @@ fn value_before(words: &[u32], q: usize) -> usize
 // The stage of the word at place q.
 pub fn stage_at(words: &[u32], l: Layout, q: usize) -> Stage
     requires { (l ≡ layout_of words.now) × (q < length words.now) }
-    ensures test { result.fault ≡ fault_at words.now q }
+    ensures test { fault_number result.fault ≡ fault_at words.now q }
     ensures onward { Onward l q (kind_at words.now q) result.most result.next }
 {
     let prev = value_before(words, q);
@@ -229,11 +228,11 @@ fn pass(words: &[u32], q: usize, s: Stage) -> usize
 }
 
 // The fault of a word that is to be one more pair at place p.
-fn fault_as_pair(l: Layout, p: usize, prev: usize, word: u32) -> u32
-    ensures { result ≡ as_pair l p prev word }
+fn fault_as_pair(l: Layout, p: usize, prev: usize, word: u32) -> Option<Fault>
+    ensures { fault_number result ≡ as_pair l p prev word }
 {
     if words::kind_of(word) != 10 {
-        return 1;
+        return Some(Fault::WrongKind);
     }
     pair_fault(l, p, prev, words::value_of(word))
 }
@@ -247,7 +246,7 @@ fn pass_pairs(words: &[u32], l: Layout, q: usize) -> usize
     let mut p = q + 1;
     while p < words.len() {
         let word = words[p];
-        if fault_as_pair(l, p, prev, word) != 0 {
+        if fault_as_pair(l, p, prev, word).is_some() {
             return p;
         }
         prev = words::value_of(word);

@@ -2,16 +2,13 @@
 -- Assumes nothing.
 use Prim.Native.Nat.{ℕ, ◌/◌}
 use mathlib.Core.Path.{◌≡◌, refl, sym, ◌∙◌, ap}
-use mathlib.Core.List.{List, ◌++◌}
+use mathlib.Core.List.{List}
 use native.Mathlib.Omega.{arith}
 use lib.ListN.{length, take, drop}
 use lib.Seq.{take_at}
 use Rattle.sums.proofs.RangeLaws.{list_length}
 use Rattle.model.specs.Bytes.{word_at, words_to, bytes_verdict, load_of, loaded_into}
 use Rattle.model.specs.Verdict as model
-use Rattle.decoder.specs.Answers.{figure_of}
-use Rattle.decoder.specs.declared.Figure.{Figure}
-use Rattle.decoder.specs.declared.Figure.TheVariants.{Number, Refused as RefusedFigure}
 
 -- a reply is no refusal
 given_not : {A : Type 0} {n number place : ℕ} → model.gives n ≡ model.refused_figure number place → A
@@ -36,28 +33,23 @@ with_refused (model.refused k q) m number place e = ap verdict (sym e)
     verdict (model.gives n) = model.accepted
     verdict (model.refused_figure n at) = model.refused n at
 
-module _ (bs : List ℕ) (lent : ℕ) (r : Figure) (said : figure_of r ≡ load_of bs lent) where
+module _ (bs : List ℕ) (lent : ℕ) where
   -- refused
-  pub load_refused : (number place : ℕ) → r ≡ RefusedFigure number place → bytes_verdict (length bs) lent ≡ model.refused number place
+  pub load_refused : (number place : ℕ) → model.refused_figure number place ≡ load_of bs lent → bytes_verdict (length bs) lent ≡ model.refused number place
   unfolding load_of
-  load_refused number place is =
-      let q : model.refused_figure number place ≡ load_of bs lent = rw is at said in
-      with_refused (bytes_verdict (length bs) lent) (length bs / 4) number place q
+  load_refused number place q = with_refused (bytes_verdict (length bs) lent) (length bs / 4) number place q
 
-  module _ (n : ℕ) (is : r ≡ Number n) where
+  module _ (n : ℕ) (given : model.gives n ≡ load_of bs lent) where
     passed : (bytes_verdict (length bs) lent ≡ model.accepted) × (n ≡ length bs / 4)
     unfolding load_of
-    passed =
-        let q : model.gives n ≡ load_of bs lent = rw is at said in
-        with_given (bytes_verdict (length bs) lent) (length bs / 4) n q
+    passed = with_given (bytes_verdict (length bs) lent) (length bs / 4) n given
 
     -- loaded
     pub load_accepted : bytes_verdict (length bs) lent ≡ model.accepted
     load_accepted = passed.0
 
     -- the words at the front are those of the bytes
-    pub load_front : (words ws front : List ℕ) → ws ≡ loaded_into (figure_of r) bs words → front ≡ take n ws → front ≡ words_to bs (length bs / 4)
+    pub load_front : (words ws front : List ℕ) → ws ≡ loaded_into (model.gives n) bs words → front ≡ take n ws → front ≡ words_to bs (length bs / 4)
     unfolding loaded_into words_to
     load_front words ws front left cut =
-        let into : loaded_into (figure_of r) bs words ≡ words_to bs n ++ drop n words = rw is in
-        cut ∙ ap (take n) (left ∙ into) ∙ take_at (words_to bs n) (drop n words) n (list_length n (word_at bs)) ∙ ap (words_to bs) passed.1
+        cut ∙ ap (take n) left ∙ take_at (words_to bs n) (drop n words) n (list_length n (word_at bs)) ∙ ap (words_to bs) passed.1

@@ -8,13 +8,14 @@ ghost use Rattle.report.specs.Lengths.{TEXT};
 ghost use Rattle.intake.specs.Answers.{planned_of, RanFile, Sized};
 ghost use Rattle.intake.specs.Buffers.{RanInput, ShownInput};
 
-use decoder::{Figure, Verdict};
+use decoder::{Fault, Refusal};
 
-// The input is turned away under a number at a place; or so many asks are answered, in blocks of so many units and weeks.
+// So many asks are answered, in blocks of so many units and weeks.
 #[derive(Clone, Copy)]
-enum Planned {
-    Refused(u32, usize),
-    Answered(usize, usize, usize),
+struct Blocks {
+    asks: usize,
+    units: usize,
+    weeks: usize,
 }
 
 // A run on a file and asks, with what is needed to cut its blocks.
@@ -24,19 +25,18 @@ fn plan_words(
     answers: &mut [u32],
     table: &mut [u32],
     scratch: &mut [u32],
-) -> Planned
+) -> Result<Blocks, Refusal>
     ensures ran_file { RanFile (planned_of result) file.now asks.now
         answers.old table.old scratch.old answers.new table.new scratch.new }
     ensures sized { Sized (length answers.old) result }
 {
-    let v = planner::run(file, asks, answers, table, scratch);
-    match v {
-        Verdict::Refused(number, place) => Planned::Refused(number, place),
-        Verdict::Accepted => {
-            let l = instance::layout_of(file);
-            Planned::Answered(asks.len() / 2, l.units, l.weeks)
-        }
-    }
+    planner::run(file, asks, answers, table, scratch)?;
+    let l = instance::layout_of(file);
+    Ok(Blocks {
+        asks: asks.len() / 2,
+        units: l.units,
+        weeks: l.weeks,
+    })
 }
 
 // The same on words of which the first `end` are the file's, the others the asks'.
@@ -46,7 +46,7 @@ fn plan_split(
     answers: &mut [u32],
     table: &mut [u32],
     scratch: &mut [u32],
-) -> Planned
+) -> Result<Blocks, Refusal>
     ensures ran_file { RanFile (planned_of result) (take end words.now) (drop end words.now)
         answers.old table.old scratch.old answers.new table.new scratch.new }
     ensures sized { Sized (length answers.old) result }
@@ -60,22 +60,24 @@ fn plan_split(
     )
 }
 
-// The run that a program's input asks for. The words have room for the longest input, so 17 comes from its length alone.
-fn plan_input(bytes: &[u8], answers: &mut [u32], table: &mut [u32], scratch: &mut [u32]) -> Planned
+// The run that a program's input asks for. The words have room for the longest input, so `TooFewWords` comes from its length alone.
+fn plan_input(
+    bytes: &[u8],
+    answers: &mut [u32],
+    table: &mut [u32],
+    scratch: &mut [u32],
+) -> Result<Blocks, Refusal>
     ensures ran_input { RanInput (planned_of result) bytes.now
         answers.old table.old scratch.old answers.new table.new scratch.new }
     ensures sized { Sized (length answers.old) result }
 {
     if 32768 < bytes.len() {
-        return Planned::Refused(17, 0);
+        return Err(Fault::TooFewWords.at(0));
     }
     let end = input::file_end(bytes);
     let mut words = [0u32; 8192];
-    let loaded = decoder::load(bytes, &mut words);
-    match loaded {
-        Figure::Refused(number, place) => Planned::Refused(number, place),
-        Figure::Number(n) => plan_split(input::front(&words, n), end / 4, answers, table, scratch),
-    }
+    let n = decoder::load(bytes, &mut words)?;
+    plan_split(input::front(&words, n), end / 4, answers, table, scratch)
 }
 
 // The text that is printed for an input, with these buffers. TEXT bytes hold the longest.
@@ -90,12 +92,11 @@ fn plan_text(
     ensures { ShownInput bytes.now answers.old table.old scratch.old
         answers.new table.new scratch.new text.old text.new result }
 {
-    let planned = plan_input(bytes, answers, table, scratch);
-    match planned {
-        Planned::Refused(number, place) => report::put_refusal(text, number, place),
-        Planned::Answered(asks, units, weeks) => {
-            report::put_lines(text, &answers[..], asks, units, weeks)
+    match plan_input(bytes, answers, table, scratch) {
+        Ok(blocks) => {
+            report::put_lines(text, &answers[..], blocks.asks, blocks.units, blocks.weeks)
         }
+        Err(refusal) => report::put_refusal(text, refusal.fault.number(), refusal.place),
     }
 }
 

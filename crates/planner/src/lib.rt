@@ -16,7 +16,7 @@ ghost use Rattle.planner.specs.Carry.{SaysNothing, SaysNone, with_used, Remember
 ghost use Rattle.planner.specs.Going.{Turned};
 ghost use Rattle.planner.specs.Due.{OpenDue, ReplyDue, Told, PutDue, TurnPut, TurnDue, RunDue};
 
-use decoder::Verdict;
+use decoder::Refusal;
 use farkas::Findings;
 use instance::Euro;
 use model::Layout;
@@ -363,23 +363,18 @@ pub fn run(
     answers: &mut [u32],
     table: &mut [u32],
     scratch: &mut [u32],
-) -> Verdict
+) -> Result<(), Refusal>
     ensures { Ran (verdict_of result) words.now asks.now
         answers.old table.old scratch.old answers.new table.new scratch.new }
 {
-    let v = asks::run_verdict(words, asks, table.len(), answers.len(), scratch.len());
-    match v {
-        Verdict::Refused(number, place) => Verdict::Refused(number, place),
-        Verdict::Accepted => {
-            answer_all(
-                words,
-                instance::layout_of(words),
-                asks,
-                answers,
-                table,
-                scratch,
-            );
-            Verdict::Accepted
-        }
-    }
+    asks::run_verdict(words, asks, table.len(), answers.len(), scratch.len())?;
+    answer_all(
+        words,
+        instance::layout_of(words),
+        asks,
+        answers,
+        table,
+        scratch,
+    );
+    Ok(())
 }

@@ -16,9 +16,6 @@ use Rattle.model.specs.Verdict.{accepted, refused}
 use Rattle.model.specs.Reading.{read_of}
 use Rattle.sets.specs.Sets.{SETS}
 use Rattle.instance.specs.Filed.{Filed}
-use Rattle.decoder.specs.declared.Verdict.{Verdict}
-use Rattle.decoder.specs.declared.Verdict.TheVariants.{Accepted, Refused}
-use Rattle.decoder.specs.Answers.{verdict_of}
 use Rattle.quotes.specs.Quotes.{query_cost, cost_at, costs_verdict, costs_into}
 use Rattle.quotes.proofs.QuoteLaws.{among_zero, among_beyond, among_in}
 
@@ -57,25 +54,22 @@ costs_ended p qs d l k e h m = list_ended (cost_at p qs) d l k (length qs) e h m
 
 -- ---- the call
 
-module _ (ws : List ℕ) (v : Verdict) (said : verdict_of v ≡ read_of ws) where
+module _ (ws : List ℕ) where
   -- the file's refusal
-  pub costs_refused : (number place asked lent : ℕ) → v ≡ Refused number place → refused number place ≡ costs_verdict ws asked lent
+  pub costs_refused : (number place asked lent : ℕ) → refused number place ≡ read_of ws → refused number place ≡ costs_verdict ws asked lent
   unfolding costs_verdict
-  costs_refused number place asked lent e = let q : refused number place ≡ read_of ws = rw e at said in rw (← q)
+  costs_refused number place asked lent said = rw (← said)
 
-  module _ (e : v ≡ Accepted) where
-    file_passed : accepted ≡ read_of ws
-    file_passed = rw e at said
-
+  module _ (passed : accepted ≡ read_of ws) where
     -- too few words are lent
     pub costs_short : (asked lent : ℕ) → lent < asked → refused 17 0 ≡ costs_verdict ws asked lent
     unfolding costs_verdict
-    costs_short asked lent h = rw (← file_passed, lt-leb asked lent h)
+    costs_short asked lent h = rw (← passed, lt-leb asked lent h)
 
     -- enough are
     pub costs_all : (asked lent : ℕ) → asked ≤ lent → accepted ≡ costs_verdict ws asked lent
     unfolding costs_verdict
-    costs_all asked lent h = rw (← file_passed, le-leb asked lent h)
+    costs_all asked lent h = rw (← passed, le-leb asked lent h)
 
 -- a refused call changes nothing
 pub costs_kept : (number place : ℕ) (p : Problem) (qs d : List ℕ) → d ≡ costs_into (refused number place) p qs d

@@ -22,9 +22,6 @@ use Rattle.instance.specs.declared.Euro.{Euro}
 use Rattle.instance.specs.Filed.{Filed}
 use Rattle.instance.proofs.FiledLaws.{filed}
 use Rattle.overhaul.specs.Range.{StartRange}
-use Rattle.decoder.specs.declared.Verdict.{Verdict}
-use Rattle.decoder.specs.declared.Verdict.TheVariants.{Accepted, Refused}
-use Rattle.decoder.specs.Answers.{verdict_of}
 use Rattle.commitment.specs.declared.BestRun.{BestRun}
 use Rattle.commitment.specs.declared.BestRun.TheVariants.{Nothing, Run}
 use Rattle.commitment.specs.Answers.{Answers}
@@ -133,16 +130,13 @@ module _ (ws : List ℕ) (i start first last : ℕ) (range : StartRange (problem
 
 -- ---- the file's verdict
 
-module _ (ws : List ℕ) (v : Verdict) (said : verdict_of v ≡ read_of ws) where
+module _ (ws : List ℕ) where
   -- its refusal
-  pub quote_refused : (number place : ℕ) (q : Quoted) → v ≡ Refused number place → refused_quote number place ≡ quote_with (read_of ws) q
+  pub quote_refused : (number place : ℕ) (q : Quoted) → refused number place ≡ read_of ws → refused_quote number place ≡ quote_with (read_of ws) q
   unfolding quote_with
-  quote_refused number place q e = let r : refused number place ≡ read_of ws = rw e at said in rw (← r)
+  quote_refused number place q r = rw (← r)
 
-  module _ (e : v ≡ Accepted) where
-    passed : accepted ≡ read_of ws
-    passed = rw e at said
-
+  module _ (passed : accepted ≡ read_of ws) where
     -- an accepted file and its layout
     pub quote_filed : (l : Layout) → l ≡ layout_of ws → Filed ws l
     quote_filed l laid = filed ws l (sym passed) laid

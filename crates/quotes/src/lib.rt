@@ -10,90 +10,88 @@ ghost use Rattle.instance.specs.Filed.{Filed};
 ghost use Rattle.decoder.specs.Answers.{verdict_of};
 ghost use Rattle.memo.specs.Memo.{Right};
 ghost use Rattle.quotes.specs.Quotes.{quote_with, run_quote, start_quote, upkeep_quote, query_cost, costs_verdict, costs_into, KeptIfRefused};
-ghost use Rattle.quotes.specs.Answers.{quoted_of};
+ghost use Rattle.quotes.specs.Answers.{quote_of, quoted_of};
 
-use decoder::Verdict;
+use commitment::BestRun;
+use decoder::{Fault, Refusal};
 use model::{Layout, NO_RUN};
 use sets::SETS;
 
-// A number and its cost in euros: a week's cheapest run, or the start that was asked about, so that one quote serves both; nothing, where there is
-// no such thing; or the file's refusal.
-#[derive(Clone, Copy)]
-pub enum Quote {
-    Nothing,
-    Given(u32, u32),
-    Refused(u32, usize),
+// A number and its cost in euros: a week's cheapest run, or the start that was asked about, so that one quote serves both.
+#[derive(Clone, Copy, Debug, PartialEq, Eq)]
+pub struct Quote {
+    pub number: u32,
+    pub cost: u32,
 }
 
 // The cheapest run of a week of an accepted file.
-fn filed_run(words: &[u32], l: Layout, week: usize, out: u32) -> Quote
+fn filed_run(words: &[u32], l: Layout, week: usize, out: u32) -> Option<Quote>
     requires { Filed words.now l }
-    ensures { quoted_of result ≡ run_quote (problem_of words.now) week out }
+    ensures { quote_of result ≡ run_quote (problem_of words.now) week out }
 {
     if week == 0 {
-        return Quote::Nothing;
+        return None;
     }
     if l.weeks < week {
-        return Quote::Nothing;
+        return None;
     }
-    let found = commitment::cheapest(words, l, week - 1, out);
-    match found {
-        commitment::BestRun::Nothing => Quote::Nothing,
-        commitment::BestRun::Run(run, cost) => Quote::Given(run, cost.0 as u32),
+    match commitment::cheapest(words, l, week - 1, out) {
+        BestRun::Nothing => None,
+        BestRun::Run(run, cost) => Some(Quote {
+            number: run,
+            cost: cost.0 as u32,
+        }),
     }
 }
 
-// The cheapest run of a week with these units out: its number and its cost.
-pub fn cheapest_run(words: &[u32], week: usize, out: u32) -> Quote
+// The cheapest run of a week with these units out: its number and its cost; or the file's refusal.
+pub fn cheapest_run(words: &[u32], week: usize, out: u32) -> Result<Option<Quote>, Refusal>
     ensures { quoted_of result ≡ quote_with (read_of words.now) (run_quote (problem_of words.now) week out) }
 {
-    let v = decoder::read(words);
-    match v {
-        Verdict::Refused(number, place) => Quote::Refused(number, place),
-        Verdict::Accepted => filed_run(words, instance::layout_of(words), week, out),
-    }
+    decoder::read(words)?;
+    Ok(filed_run(words, instance::layout_of(words), week, out))
 }
 
 // What the overhaul of unit i, from 0, costs from a start.
-fn start_quote(words: &[u32], l: Layout, i: usize, start: usize) -> Quote
+fn start_quote(words: &[u32], l: Layout, i: usize, start: usize) -> Option<Quote>
     requires filed { Filed words.now l }
     requires i_lt_units { i < l.units }
-    ensures { quoted_of result ≡ start_quote (problem_of words.now) i start }
+    ensures { quote_of result ≡ start_quote (problem_of words.now) i start }
 {
     let starts = overhaul::starts_of(words, l, i);
     if start < starts.first {
-        return Quote::Nothing;
+        return None;
     }
     if starts.last < start {
-        return Quote::Nothing;
+        return None;
     }
     let cost = overhaul::upkeep(words, l, i, start);
-    Quote::Given(start as u32, cost.0 as u32)
+    Some(Quote {
+        number: start as u32,
+        cost: cost.0 as u32,
+    })
 }
 
 // The same of a unit of an accepted file.
-fn filed_upkeep(words: &[u32], l: Layout, unit: usize, start: usize) -> Quote
+fn filed_upkeep(words: &[u32], l: Layout, unit: usize, start: usize) -> Option<Quote>
     requires { Filed words.now l }
-    ensures { quoted_of result ≡ upkeep_quote (problem_of words.now) unit start }
+    ensures { quote_of result ≡ upkeep_quote (problem_of words.now) unit start }
 {
     if unit == 0 {
-        return Quote::Nothing;
+        return None;
     }
     if l.units < unit {
-        return Quote::Nothing;
+        return None;
     }
     start_quote(words, l, unit - 1, start)
 }
 
-// What the overhaul of a unit costs in maintenance from a permitted start: the start and the cost.
-pub fn upkeep(words: &[u32], unit: usize, start: usize) -> Quote
+// What the overhaul of a unit costs in maintenance from a permitted start: the start and the cost; or the file's refusal.
+pub fn upkeep(words: &[u32], unit: usize, start: usize) -> Result<Option<Quote>, Refusal>
     ensures { quoted_of result ≡ quote_with (read_of words.now) (upkeep_quote (problem_of words.now) unit start) }
 {
-    let v = decoder::read(words);
-    match v {
-        Verdict::Refused(number, place) => Quote::Refused(number, place),
-        Verdict::Accepted => filed_upkeep(words, instance::layout_of(words), unit, start),
-    }
+    decoder::read(words)?;
+    Ok(filed_upkeep(words, instance::layout_of(words), unit, start))
 }
 
 // The cost that a query asks for: a week times SETS and the units out.
@@ -135,22 +133,17 @@ pub fn quote_weeks(
     queries: &[u32],
     scratch: &mut [u32],
     costs: &mut [u32],
-) -> Verdict
+) -> Result<(), Refusal>
     ensures answer { verdict_of result ≡ costs_verdict words.now (length queries.now) (length costs.old) }
     ensures buffer { costs.new ≡
         costs_into (verdict_of result) (problem_of words.now) queries.now costs.old }
     ensures lent { KeptIfRefused (verdict_of result) scratch.old scratch.new }
 {
-    let v = decoder::read(words);
-    match v {
-        Verdict::Refused(number, place) => Verdict::Refused(number, place),
-        Verdict::Accepted => {
-            if costs.len() < queries.len() {
-                return Verdict::Refused(17, 0);
-            }
-            memo::clear(scratch);
-            write(words, instance::layout_of(words), queries, scratch, costs);
-            Verdict::Accepted
-        }
+    decoder::read(words)?;
+    if costs.len() < queries.len() {
+        return Err(Fault::TooFewWords.at(0));
     }
+    memo::clear(scratch);
+    write(words, instance::layout_of(words), queries, scratch, costs);
+    Ok(())
 }

@@ -23,9 +23,6 @@ use Rattle.model.specs.Reading.{read_of}
 use Rattle.model.specs.Drawing.{draw_verdict, drawn_into}
 use Rattle.instance.specs.Filed.{Filed}
 use Rattle.instance.proofs.FiledLaws.{filed, cells_are}
-use Rattle.decoder.specs.declared.Verdict.{Verdict}
-use Rattle.decoder.specs.declared.Verdict.TheVariants.{Accepted, Refused}
-use Rattle.decoder.specs.Answers.{verdict_of}
 
 -- ---- an overhaul
 
@@ -75,33 +72,29 @@ module _ (ws : List ℕ) (l : Layout) (f : Filed ws l) where
 
 -- ---- the answer
 
-module _ (ws : List ℕ) (v : Verdict) (said : verdict_of v ≡ read_of ws) where
-  -- the file's refusal
-  pub drawn_refused : (number place lent : ℕ) → v ≡ Refused number place → refused number place ≡ draw_verdict ws lent
+-- the file's refusal
+pub drawn_refused : (ws : List ℕ) (number place lent : ℕ) → refused number place ≡ read_of ws → refused number place ≡ draw_verdict ws lent
+unfolding draw_verdict
+drawn_refused ws number place lent said = rw (← said)
+
+module _ (ws : List ℕ) (l : Layout) (passed : accepted ≡ read_of ws) (laid : l ≡ layout_of ws) where
+  -- an accepted file and its layout
+  pub verdict_filed : Filed ws l
+  verdict_filed = filed ws l (sym passed) laid
+
+  -- whose number of bytes is no large one
+  pub bytes_fit : Fits w64 (l.weeks * l.units)
+  bytes_fit = omega (arith, verdict_filed.cells_most)
+
+  -- too few bytes are lent
+  pub drawn_short : (lent : ℕ) → lent < l.weeks * l.units → refused 17 0 ≡ draw_verdict ws lent
   unfolding draw_verdict
-  drawn_refused number place lent e = let q : refused number place ≡ read_of ws = rw e at said in rw (← q)
+  drawn_short lent h = rw (← passed, cells_are ws l verdict_filed, lt-leb (l.weeks * l.units) lent h)
 
-  module _ (l : Layout) (e : v ≡ Accepted) (laid : l ≡ layout_of ws) where
-    passed : accepted ≡ read_of ws
-    passed = rw e at said
-
-    -- an accepted file and its layout
-    pub verdict_filed : Filed ws l
-    verdict_filed = filed ws l (sym passed) laid
-
-    -- whose number of bytes is no large one
-    pub bytes_fit : Fits w64 (l.weeks * l.units)
-    bytes_fit = omega (arith, verdict_filed.cells_most)
-
-    -- too few bytes are lent
-    pub drawn_short : (lent : ℕ) → lent < l.weeks * l.units → refused 17 0 ≡ draw_verdict ws lent
-    unfolding draw_verdict
-    drawn_short lent h = rw (← passed, cells_are ws l verdict_filed, lt-leb (l.weeks * l.units) lent h)
-
-    -- enough bytes are lent
-    pub drawn_all : (lent : ℕ) → l.weeks * l.units ≤ lent → accepted ≡ draw_verdict ws lent
-    unfolding draw_verdict
-    drawn_all lent h = rw (← passed, cells_are ws l verdict_filed, le-leb (l.weeks * l.units) lent h)
+  -- enough bytes are lent
+  pub drawn_all : (lent : ℕ) → l.weeks * l.units ≤ lent → accepted ≡ draw_verdict ws lent
+  unfolding draw_verdict
+  drawn_all lent h = rw (← passed, cells_are ws l verdict_filed, le-leb (l.weeks * l.units) lent h)
 
 -- a refused call changes nothing
 pub bytes_kept : (number place : ℕ) (p : Problem) (s : Schedule) (d : List ℕ) → d ≡ drawn_into (refused number place) p s d

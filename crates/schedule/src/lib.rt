@@ -11,7 +11,7 @@ ghost use Rattle.model.specs.Drawing.{draw_verdict, drawn_into};
 ghost use Rattle.instance.specs.Filed.{Filed};
 ghost use Rattle.decoder.specs.Answers.{verdict_of};
 
-use decoder::Verdict;
+use decoder::{Fault, Refusal};
 use model::Layout;
 
 // The number at place k of a list, 0 past its end.
@@ -79,21 +79,16 @@ fn write(words: &[u32], starts: &[u32], runs: &[u32], l: Layout, grid: &mut [u8]
 
 // Lays a schedule out as a grid in the lent bytes and keeps any beyond, or refuses and changes nothing: the file's refusal, then 17 where
 // the bytes are fewer than weeks times units (D43).
-pub fn draw(words: &[u32], starts: &[u32], runs: &[u32], grid: &mut [u8]) -> Verdict
+pub fn draw(words: &[u32], starts: &[u32], runs: &[u32], grid: &mut [u8]) -> Result<(), Refusal>
     ensures answer { verdict_of result ≡ draw_verdict words.now (length grid.old) }
     ensures buffer { grid.new ≡
         drawn_into (verdict_of result) (problem_of words.now) (schedule_of starts.now runs.now) grid.old }
 {
-    let v = decoder::read(words);
-    match v {
-        Verdict::Refused(number, place) => Verdict::Refused(number, place),
-        Verdict::Accepted => {
-            let l = instance::layout_of(words);
-            if grid.len() < l.weeks * l.units {
-                return Verdict::Refused(17, 0);
-            }
-            write(words, starts, runs, l, grid);
-            Verdict::Accepted
-        }
+    decoder::read(words)?;
+    let l = instance::layout_of(words);
+    if grid.len() < l.weeks * l.units {
+        return Err(Fault::TooFewWords.at(0));
     }
+    write(words, starts, runs, l, grid);
+    Ok(())
 }

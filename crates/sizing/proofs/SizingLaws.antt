@@ -15,9 +15,6 @@ use Rattle.model.specs.Prefix.{next_power, space_bound, MOST_FIGURE}
 use Rattle.model.specs.Verdict.{accepted, refused, gives, refused_figure}
 use Rattle.model.specs.Reading.{read_of}
 use Rattle.model.specs.Sizing.{sizing_of}
-use Rattle.decoder.specs.Answers.{verdict_of}
-use Rattle.decoder.specs.declared.Verdict.{Verdict}
-use Rattle.decoder.specs.declared.Verdict.TheVariants.{Accepted, Refused}
 
 -- a factor of 1 or more makes nothing smaller
 mul_grows : (a w : ℕ) → a ≤ a * suc w
@@ -59,11 +56,12 @@ cap_ended w j u sum e h g = let q : j ≡ u = omega arith in rw q at e
 
 -- ---- the answer
 
-module _ (ws : List ℕ) (v : Verdict) (said : verdict_of v ≡ read_of ws) where
-  pub sized_refused : (number place : ℕ) → v ≡ Refused number place → refused_figure number place ≡ sizing_of ws
+module _ (ws : List ℕ) where
+  pub sized_refused : (number place : ℕ) → refused number place ≡ read_of ws → refused_figure number place ≡ sizing_of ws
   unfolding sizing_of
-  sized_refused number place e = let q : refused number place ≡ read_of ws = rw e at said in rw (← q)
+  sized_refused number place q = rw (← q)
 
-  pub sized_accepted : (w u r : ℕ) → v ≡ Accepted → w ≡ value_at ws 0 → u ≡ value_at ws 1 → r ≡ min MOST_FIGURE (sum_to u (next_power w)) → gives r ≡ sizing_of ws
+  pub sized_accepted : (w u r : ℕ) → accepted ≡ read_of ws → w ≡ value_at ws 0 → u ≡ value_at ws 1 → r ≡ min MOST_FIGURE (sum_to u (next_power w))
+      → gives r ≡ sizing_of ws
   unfolding sizing_of space_bound problem_of
-  sized_accepted w u r e ew eu is = let q : accepted ≡ read_of ws = rw e at said in rw (← q, is, ew, eu)
+  sized_accepted w u r q ew eu is = rw (← q, is, ew, eu)

@@ -8,7 +8,7 @@ ghost use Rattle.model.specs.Prefix.{next_power, MOST_FIGURE};
 ghost use Rattle.model.specs.Sizing.{sizing_of};
 ghost use Rattle.decoder.specs.Answers.{figure_of};
 
-use decoder::{Figure, Verdict};
+use decoder::Refusal;
 
 // 2^28 - 1: the greatest sizing figure.
 pub const MOST_FIGURE: usize = 268435455;
@@ -38,16 +38,11 @@ fn space_bound(w: usize, u: usize) -> usize
 }
 
 // The sizing figure of a file, or the file's refusal (D98).
-pub fn sizing(words: &[u32]) -> Figure
+pub fn sizing(words: &[u32]) -> Result<usize, Refusal>
     ensures { figure_of result ≡ sizing_of words.now }
 {
-    let v = decoder::read(words);
-    match v {
-        Verdict::Refused(number, place) => Figure::Refused(number, place),
-        Verdict::Accepted => {
-            let w = words::value_at(words, 0);
-            let u = words::value_at(words, 1);
-            Figure::Number(space_bound(w, u))
-        }
-    }
+    decoder::read(words)?;
+    let w = words::value_at(words, 0);
+    let u = words::value_at(words, 1);
+    Ok(space_bound(w, u))
 }

@@ -4,19 +4,19 @@ use Rattle.asks.proofs.RefusalLaws.{blocks_fit, table_short, table_long, answers
 use Rattle.asks.proofs.memory_verdict.Goals as goal
 
 pub returns-then-table-lt64 : goal.returns-then-table-lt64
-returns-then-table-lt64 c = search table_short
+returns-then-table-lt64 c = rw c.at.ensures (search table_short)
 
 pub returns-then-table-gt16384 : goal.returns-then-table-gt16384
-returns-then-table-gt16384 c = search table_long
+returns-then-table-gt16384 c = rw c.at-then-table-gt16384.ensures (search table_long)
 
 pub overflow_mul-asks : goal.overflow_mul-asks
 overflow_mul-asks c = search blocks_fit
 
 pub returns-then-answers-asks : goal.returns-then-answers-asks
-returns-then-answers-asks c = search answers_short
+returns-then-answers-asks c = rw c.at-then-answers-asks.ensures (search answers_short)
 
 pub returns-then-scratch-scratch_wanted : goal.returns-then-scratch-scratch_wanted
-returns-then-scratch-scratch_wanted c = search scratch_short
+returns-then-scratch-scratch_wanted c = rw c.at-then-scratch-scratch_wanted.ensures (search scratch_short)
 
 pub returns : goal.returns
 returns c = search memory_enough

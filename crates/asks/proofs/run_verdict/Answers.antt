@@ -1,16 +1,24 @@
 -- `asks::run_verdict` meets its contract: the first refusal, of the file, of the ask, then of lent memory.
 -- Assumes nothing.
+use Rattle.std.proofs.lemmas.Result.{err_from_is_err_and}
 use Rattle.asks.proofs.VerdictLaws.{run_file, run_laid, run_asks, run_few, run_memory}
 use Rattle.asks.proofs.run_verdict.Goals as goal
 
-pub returns-in-Refused : goal.returns-in-Refused
-returns-in-Refused c = search run_file
+pub returns-in_err-read : goal.returns-in_err-read
+returns-in_err-read c =
+    let p = err_from_is_err_and c.from_residual.result c.from_residual.ensures.1 in
+    rw (p.1, p.2) (search (run_file, c.in_err-read.ensures))
 
-pub returns-in-Refused-a : goal.returns-in-Refused-a
-returns-in-Refused-a c = search run_asks
+pub returns-in_err-asks_verdict : goal.returns-in_err-asks_verdict
+returns-in_err-asks_verdict c =
+    let p = err_from_is_err_and c.from_residual-in_err-asks_verdict.result c.from_residual-in_err-asks_verdict.ensures.1 in
+    rw (p.1, p.2) (search (run_asks, c.in_ok-read.ensures, c.in_err-asks_verdict.ensures))
 
 pub memory_verdict-requires : goal.memory_verdict-requires
-memory_verdict-requires c = record { filed = search run_laid; asks_bound = search run_few }
+memory_verdict-requires c = record {
+  filed = search (run_laid, c.in_ok-read.ensures);
+  asks_bound = search (run_few, c.in_ok-read.ensures, c.in_ok-asks_verdict.ensures);
+}
 
 pub returns : goal.returns
-returns c = search run_memory
+returns c = search (run_memory, c.in_ok-read.ensures, c.in_ok-asks_verdict.ensures)

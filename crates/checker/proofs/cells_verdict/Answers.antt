@@ -6,7 +6,7 @@ pub loop-q-init : goal.loop-q-init
 loop-q-init c = search onward_start
 
 pub returns-then-grid-q-gt2 : goal.returns-then-grid-q-gt2
-returns-then-grid-q-gt2 c = search cells_fault
+returns-then-grid-q-gt2 c = rw c.at.ensures (search cells_fault)
 
 pub loop-q-preserved : goal.loop-q-preserved
 loop-q-preserved c = search cells_next

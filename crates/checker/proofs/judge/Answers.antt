@@ -1,10 +1,24 @@
--- `checker::judge` meets its contract: the file's refusals first, then the grid.
+-- `checker::judge` meets its contract: the file's refusals first, then the grid's, then its cells.
 -- Assumes nothing.
-use Rattle.checker.proofs.JudgingLaws.{file_refused, file_accepted}
+use Rattle.std.proofs.lemmas.Result.{err_from_is_err_and}
+use Rattle.checker.proofs.JudgingLaws.{file_refused, file_accepted, grid_refused, stated, grid_judged}
 use Rattle.checker.proofs.judge.Goals as goal
 
-pub judge_filed-requires : goal.judge_filed-requires
-judge_filed-requires c = search file_accepted
+pub returns-in_err-read : goal.returns-in_err-read
+returns-in_err-read c =
+    let p = err_from_is_err_and c.from_residual.result c.from_residual.ensures.1 in
+    rw (p.1, p.2) (search (file_refused, c.in_err-read.ensures))
 
-pub returns-in-Refused : goal.returns-in-Refused
-returns-in-Refused c = search file_refused
+pub grid_verdict-requires : goal.grid_verdict-requires
+grid_verdict-requires c = search (file_accepted, c.in_ok-read.ensures)
+
+pub returns-in_err-grid_verdict : goal.returns-in_err-grid_verdict
+returns-in_err-grid_verdict c =
+    let p = err_from_is_err_and c.from_residual-in_err-grid_verdict.result c.from_residual-in_err-grid_verdict.ensures.1 in
+    rw (p.1, p.2) (search (grid_refused, c.in_ok-read.ensures, c.in_err-grid_verdict.ensures))
+
+pub judge_cells-requires : goal.judge_cells-requires
+judge_cells-requires c = search (stated, c.in_ok-read.ensures, c.in_ok-grid_verdict.ensures)
+
+pub returns : goal.returns
+returns c = search (grid_judged, c.in_ok-read.ensures, c.in_ok-grid_verdict.ensures)

@@ -4,7 +4,7 @@ use Rattle.checker.proofs.ProgramLaws.{input_long, file_length, file_short, inpu
 use Rattle.checker.proofs.judge_input.Goals as goal
 
 pub returns-then-bytes-gt32768 : goal.returns-then-bytes-gt32768
-returns-then-bytes-gt32768 c = search input_long
+returns-then-bytes-gt32768 c = rw c.at.ensures (search input_long)
 
 pub slice_bounds-judge_bytes-end : goal.slice_bounds-judge_bytes-end
 slice_bounds-judge_bytes-end c = search file_length

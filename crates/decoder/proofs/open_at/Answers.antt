@@ -1,16 +1,16 @@
 -- `decoder::open_at` meets its contract: the definition's tests, one after the other.
 -- Assumes nothing.
-use Rattle.decoder.proofs.StepLaws.{open_ended, open_fault, open_end, open_passed}
+use Rattle.std.proofs.Common.{arith}
+use Rattle.sums.proofs.Tests.{tests}
+use Rattle.decoder.proofs.FaultLaws.{number_some}
+use Rattle.model.specs.Words.{kind_at}
+use Rattle.decoder.specs.Stages.{open_at}
 use Rattle.decoder.proofs.open_at.Goals as goal
 
-pub returns-then-words-q : goal.returns-then-words-q
-returns-then-words-q c = search open_ended
+pub returns-then-is_none : goal.returns-then-is_none
+unfolding open_at kind_at
+returns-then-is_none c = grind (arith, tests)
 
-pub returns-then-fault_at-ne0 : goal.returns-then-fault_at-ne0
-returns-then-fault_at-ne0 c = search open_fault
-
-pub returns-then-kind_of-eq15 : goal.returns-then-kind_of-eq15
-returns-then-kind_of-eq15 c = search open_end
-
-pub returns : goal.returns
-returns c = search open_passed
+pub returns-else-is_none : goal.returns-else-is_none
+unfolding open_at
+returns-else-is_none c = grind (arith, tests, number_some)

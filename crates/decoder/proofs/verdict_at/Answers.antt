@@ -4,13 +4,13 @@ use Rattle.decoder.proofs.StepLaws.{ended_out, ended_fault, ended_last, ended_mo
 use Rattle.decoder.proofs.verdict_at.Goals as goal
 
 pub returns-then-words-q : goal.returns-then-words-q
-returns-then-words-q c = search ended_out
+returns-then-words-q c = rw c.at.ensures (search ended_out)
 
-pub returns-then-fault-ne0 : goal.returns-then-fault-ne0
-returns-then-fault-ne0 c = search ended_fault
+pub returns-in-Some : goal.returns-in-Some
+returns-in-Some c = rw c.at-in-Some.ensures (search (ended_fault, c.in-Some.ensures))
 
 pub returns-then-q-words : goal.returns-then-q-words
-returns-then-q-words c = search ended_last
+returns-then-q-words c = search (ended_last, c.in_default.ensures)
 
 pub returns : goal.returns
-returns c = search ended_more
+returns c = rw c.at-2.ensures (search (ended_more, c.in_default.ensures))

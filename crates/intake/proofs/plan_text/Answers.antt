@@ -5,10 +5,10 @@ use Rattle.intake.proofs.TextLaws.{text_refused, text_lines, text_listed}
 use Rattle.intake.proofs.plan_text.Goals as goal
 
 pub put_lines-requires : goal.put_lines-requires
-put_lines-requires c = (search text_listed, search rules)
+put_lines-requires c = (search (text_listed, c.in-Ok.ensures.sized.by), search rules)
 
-pub returns-in-Refused : goal.returns-in-Refused
-returns-in-Refused c = search text_refused
+pub returns-in-Ok : goal.returns-in-Ok
+returns-in-Ok c = search (text_lines, c.in-Ok.ensures.sized.by, c.in-Ok.ensures.ran_input)
 
-pub returns-in-Answered : goal.returns-in-Answered
-returns-in-Answered c = search text_lines
+pub returns-in-Err : goal.returns-in-Err
+returns-in-Err c = search (text_refused, c.in-Err.ensures.ran_input)

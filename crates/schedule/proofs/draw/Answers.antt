@@ -1,20 +1,22 @@
 -- `schedule::draw` meets its contract: the file's verdict first, then the number of lent bytes, then the grid is written.
 -- Assumes nothing.
-use Rattle.std.proofs.Common.{rules}
+use Rattle.std.proofs.lemmas.Result.{err_from_is_err_and}
 use Rattle.schedule.proofs.DrawLaws.{drawn_refused, verdict_filed, bytes_fit, drawn_short, drawn_all, bytes_kept}
 use Rattle.schedule.proofs.draw.Goals as goal
 
+pub returns-in_err-read : goal.returns-in_err-read
+returns-in_err-read c =
+    let p = err_from_is_err_and c.from_residual.result c.from_residual.ensures.1 in
+    rw (p.1, p.2) record { answer = search (drawn_refused, c.in_err-read.ensures); buffer = search bytes_kept }
+
 pub overflow_mul-l : goal.overflow_mul-l
-overflow_mul-l c = search bytes_fit
+overflow_mul-l c = search (bytes_fit, c.in_ok-read.ensures)
 
 pub returns-then-grid-l : goal.returns-then-grid-l
-returns-then-grid-l c = record { answer = search drawn_short; buffer = search bytes_kept }
+returns-then-grid-l c = rw c.at.ensures record { answer = search (drawn_short, c.in_ok-read.ensures); buffer = search bytes_kept }
 
-pub write-requires : goal.write-requires
-write-requires c = record { filed = search verdict_filed; units_in_bounds = search rules }
+pub write-requires-clause-filed : goal.write-requires-clause-filed
+write-requires-clause-filed c = search (verdict_filed, c.in_ok-read.ensures)
 
-pub returns-in-Refused : goal.returns-in-Refused
-returns-in-Refused c = record { answer = search drawn_refused; buffer = search bytes_kept }
-
-pub returns-else-grid-l : goal.returns-else-grid-l
-returns-else-grid-l c = record { answer = search drawn_all; buffer = search rules }
+pub returns-clause-answer : goal.returns-clause-answer
+returns-clause-answer c = search (drawn_all, c.in_ok-read.ensures)

@@ -5,8 +5,8 @@ use Rattle.decoder.proofs.stages.pass_pairs.Goals as goal
 pub loop-p-init : goal.loop-p-init
 loop-p-init c = (search rules, search rules, search prev_next, refl)
 
-pub returns-then-fault_as_pair-ne0 : goal.returns-then-fault_as_pair-ne0
-returns-then-fault_as_pair-ne0 c = search pass_stop
+pub returns-then-is_some : goal.returns-then-is_some
+returns-then-is_some c = search pass_stop
 
 pub loop-p-preserved : goal.loop-p-preserved
 loop-p-preserved c = (search rules, search rules, search prev_next, search pairs_next)

@@ -2,16 +2,13 @@
 -- Assumes nothing.
 use Rattle.model.specs.Reading.{within}
 use Rattle.sums.proofs.Tests.{tests}
+use Rattle.std.proofs.Common.{arith}
 use Rattle.decoder.proofs.stages.range.Goals as goal
 
-pub returns-then-v-lo : goal.returns-then-v-lo
+pub returns-then-v-hi : goal.returns-then-v-hi
 unfolding within
-returns-then-v-lo c = search tests
-
-pub returns-then-hi-v : goal.returns-then-hi-v
-unfolding within
-returns-then-hi-v c = search tests
+returns-then-v-hi c = search tests
 
 pub returns : goal.returns
 unfolding within
-returns c = search tests
+returns c = grind (arith, tests)
