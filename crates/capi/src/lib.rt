@@ -25,8 +25,7 @@ pub extern "C" fn novelbrisca_load(bytes: &[u8], words: &mut [u32]) -> u32
     ensures buffer { words.new ≡
         loaded_into (load_of bytes.now (length words.old)) bytes.now words.old }
 {
-    let reply = decoder::load(bytes, words);
-    codes::figure_refusal(reply)
+    codes::figure_refusal(decoder::load(bytes, words))
 }
 
 // A plan file: the refusal's number, 0 where it is accepted.
@@ -34,8 +33,7 @@ pub extern "C" fn novelbrisca_load(bytes: &[u8], words: &mut [u32]) -> u32
 pub extern "C" fn novelbrisca_read(words: &[u32]) -> u32
     ensures { result ≡ refused_by (read_of words.now) }
 {
-    let v = decoder::read(words);
-    codes::refusal_number(v)
+    codes::refusal_number(decoder::read(words))
 }
 
 // The place of that refusal, 0 where the file is accepted.
@@ -43,8 +41,7 @@ pub extern "C" fn novelbrisca_read(words: &[u32]) -> u32
 pub extern "C" fn novelbrisca_read_place(words: &[u32]) -> usize
     ensures { result ≡ refused_at (read_of words.now) }
 {
-    let v = decoder::read(words);
-    codes::refusal_place(v)
+    codes::refusal_place(decoder::read(words))
 }
 
 // The sizing figure, 0 where the file is refused; number and place are then those of the file.
@@ -52,8 +49,7 @@ pub extern "C" fn novelbrisca_read_place(words: &[u32]) -> usize
 pub extern "C" fn novelbrisca_sizing(words: &[u32]) -> usize
     ensures { result ≡ given (sizing_of words.now) }
 {
-    let reply = sizing::sizing(words);
-    codes::number_given(reply)
+    codes::number_given(sizing::sizing(words))
 }
 
 // A grid: the cost where it is sound, 2^32 and the smallest number among the formulas broken, or 2^33 and the refusal's number. A cost is far
@@ -62,8 +58,7 @@ pub extern "C" fn novelbrisca_sizing(words: &[u32]) -> usize
 pub extern "C" fn novelbrisca_judge(words: &[u32], grid: &[u8]) -> u64
     ensures { result ≡ judged_code (judge_of words.now grid.now) }
 {
-    let j = checker::judge(words, grid);
-    codes::judgement_code(j)
+    codes::judgement_code(checker::judge(words, grid))
 }
 
 // The place of that refusal, 0 where the grid is judged.
@@ -71,8 +66,7 @@ pub extern "C" fn novelbrisca_judge(words: &[u32], grid: &[u8]) -> u64
 pub extern "C" fn novelbrisca_judge_place(words: &[u32], grid: &[u8]) -> usize
     ensures { result ≡ judged_place (judge_of words.now grid.now) }
 {
-    let j = checker::judge(words, grid);
-    codes::judgement_place(j)
+    codes::judgement_place(checker::judge(words, grid))
 }
 
 // A schedule laid out as a grid in the lent bytes: the refusal's number, 0 where the grid was written. The place is that of
@@ -89,8 +83,7 @@ pub extern "C" fn novelbrisca_draw(
         drawn_into (draw_verdict words.now (length grid.old)) (problem_of words.now)
         (schedule_of starts.now runs.now) grid.old }
 {
-    let verdict = schedule::draw(words, starts, runs, grid);
-    codes::refusal_number(verdict)
+    codes::refusal_number(schedule::draw(words, starts, runs, grid))
 }
 
 // The cheapest run of a week, from 1, with these units out: its cost times 2^32 and its number, 2^62 where there is none, or 2^63 and the number
@@ -99,8 +92,7 @@ pub extern "C" fn novelbrisca_draw(
 pub extern "C" fn novelbrisca_cheapest_run(words: &[u32], week: usize, out: u32) -> u64
     ensures { result ≡ quoted_code (quote_with (read_of words.now) (run_quote (problem_of words.now) week out)) }
 {
-    let quote = quotes::cheapest_run(words, week, out);
-    codes::quote_code(quote)
+    codes::quote_code(quotes::cheapest_run(words, week, out))
 }
 
 // What the overhaul of a unit, from 1, costs in maintenance from a permitted start: the cost times 2^32 and the start, 2^62 where there is no
@@ -109,8 +101,7 @@ pub extern "C" fn novelbrisca_cheapest_run(words: &[u32], week: usize, out: u32)
 pub extern "C" fn novelbrisca_upkeep(words: &[u32], unit: usize, start: usize) -> u64
     ensures { result ≡ quoted_code (quote_with (read_of words.now) (upkeep_quote (problem_of words.now) unit start)) }
 {
-    let quote = quotes::upkeep(words, unit, start);
-    codes::quote_code(quote)
+    codes::quote_code(quotes::upkeep(words, unit, start))
 }
 
 // What the cheapest runs of queried weeks cost, in the lent words: the refusal's number, 0 where they were written. A query is a week, from 1,
@@ -131,8 +122,7 @@ pub extern "C" fn novelbrisca_week_costs(
         (costs_verdict words.now (length queries.now) (length costs.old))
         scratch.old scratch.new }
 {
-    let verdict = quotes::quote_weeks(words, queries, scratch, costs);
-    codes::refusal_number(verdict)
+    codes::refusal_number(quotes::quote_weeks(words, queries, scratch, costs))
 }
 
 // A run of asks, each answered in its block of the lent words: the refusal's number, 0 where all were answered. An ask makes at most
@@ -152,8 +142,7 @@ pub extern "C" fn novelbrisca_run(
         words.now asks.now answers.old table.old scratch.old
         answers.new table.new scratch.new }
 {
-    let verdict = planner::run(words, asks, answers, table, scratch);
-    codes::refusal_number(verdict)
+    codes::refusal_number(planner::run(words, asks, answers, table, scratch))
 }
 
 // The place of that refusal, 0 where the asks are answered; lent memory by its numbers of words.
@@ -167,6 +156,5 @@ pub extern "C" fn novelbrisca_run_place(
 ) -> usize
     ensures { result ≡ refused_at (run_verdict words.now asks.now table answers scratch) }
 {
-    let verdict = asks::run_verdict(words, asks, table, answers, scratch);
-    codes::refusal_place(verdict)
+    codes::refusal_place(asks::run_verdict(words, asks, table, answers, scratch))
 }

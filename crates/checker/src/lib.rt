@@ -59,11 +59,9 @@ fn week_cost(words: &[u32], grid: &[u8], l: Layout, t: usize) -> Euro
     requires t_lt_weeks { t < l.weeks }
     ensures { (result.0 ≡ week_cost (problem_of words.now) (cell l.units grid.now) t) × (result.0 ≤ 4294967296) }
 {
-    let units = l.units;
     let mut sum = Euro(0);
-    for i in 0..units {
-        let more = cell_cost(words, grid, l, t, i);
-        sum = sum.plus(more);
+    for i in 0..l.units {
+        sum = sum.plus(cell_cost(words, grid, l, t, i));
     }
     sum
 }
@@ -73,11 +71,9 @@ fn grid_cost(words: &[u32], grid: &[u8], l: Layout) -> Euro
     requires { Stated words.now grid.now l }
     ensures { result.0 ≡ cost9 (problem_of words.now) (cell l.units grid.now) }
 {
-    let weeks = l.weeks;
     let mut sum = Euro(0);
-    for t in 0..weeks {
-        let more = week_cost(words, grid, l, t);
-        sum = sum.plus(more);
+    for t in 0..l.weeks {
+        sum = sum.plus(week_cost(words, grid, l, t));
     }
     sum
 }
@@ -88,6 +84,7 @@ fn grid_cost(words: &[u32], grid: &[u8], l: Layout) -> Euro
 fn cells_verdict(grid: &[u8]) -> Result<(), Refusal>
     ensures { verdict_of result ≡ first_fault (cell_fault grid.now) 0 (length grid.now) }
 {
+    // A loop, and not `position`: what that says of its test takes more to use than the loop.
     for q in 0..grid.len() {
         if 2 < grid[q] {
             return Err(Fault::BadCell.at(q));

@@ -1,17 +1,10 @@
 -- Bytes to words: the refusals, and the words written so far.
 -- Assumes nothing.
-use Rattle.std.proofs.Common.{◌≡◌, ℕ, ◌+◌, ◌*◌, ◌/◌, ◌%◌, ◌<◌, ◌≤◌, List, ◌++◌, length, get_or, drop, set, refl, eq-eqb, ne_eqb, le-leb}
+use Rattle.std.proofs.Common.{◌≡◌, ℕ, ◌+◌, ◌*◌, ◌/◌, ◌%◌, ◌<◌, ◌≤◌, List, ◌++◌, length, drop, set, refl, eq-eqb, ne_eqb, le-leb}
 use borrow.Author.Tests.{lt-leb}
 use Rattle.sums.proofs.LoopLaws.{list_start, list_next, list_ended}
 use Rattle.model.specs.Verdict.{gives, refused_figure}
 use Rattle.model.specs.Bytes.{word_from, word_at, words_to, load_of, loaded_into}
-
--- ---- one word
-
-pub word_of : (bs : List ℕ) (q a b c d : ℕ) → a ≡ get_or bs q 0 → b ≡ get_or bs (q + 1) 0 → c ≡ get_or bs (q + 2) 0 → d ≡ get_or bs (q + 3) 0
-    → a + 256 * b + 65536 * c + 16777216 * d ≡ word_from bs q
-unfolding word_from
-word_of bs q a b c d ea eb ec ed = rw (ea, eb, ec, ed)
 
 -- ---- the answer
 

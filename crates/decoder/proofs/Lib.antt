@@ -1,8 +1,6 @@
 -- the numbers of faults
 pub mod FaultLaws
--- the arms of the match over kinds: the test of the value
-pub mod ArmLaws
--- and the next stage
+-- the arms of the match over kinds: the next stage
 pub mod StageLaws
 -- the reader's steps
 pub mod StepLaws

@@ -2,6 +2,8 @@
 -- Assumes nothing.
 use Rattle.std.proofs.Common.{◌≡◌, ℕ, suc, ◌+◌, ◌-◌, ◌*◌, ◌%◌, ◌^◌, ◌<◌, ◌≤◌, min, Option, is_some, Bool, true, false, not, ◌&&◌, eqb, ltb, List, length, get_or, sym, refl, ap, ◌∙◌, ⊎_elim, arith, ltb-true, le-ltb, lt-ltb, eq-eqb, ne_eqb, eqb-true}
 use borrow.Author.Tests.{eqb-false}
+use mir.Syntax.{w32}
+use mir.Val.{Fits}
 use Rattle.sums.specs.Logic.{if}
 use Rattle.sums.proofs.LogicLaws.{true_false, and_left, and_right, not_at}
 use Rattle.model.specs.declared.Layout.{Layout}
@@ -16,10 +18,6 @@ use Rattle.decoder.proofs.FaultLaws.{number_some, number_none}
 use Rattle.decoder.specs.Stages.{Onward, as_pair, Passes, open_at, Clear, Passed}
 
 -- ---- the word at a place
-
--- before the first word the place is again the first
-pub before_first : (ws : List ℕ) (q r : ℕ) → q ≡ 0 → r ≡ value_at ws 0 → r ≡ value_at ws (q - 1)
-before_first ws q r e t = rw e t
 
 -- the sections of a file's own layout follow one another
 pub laid_here : (ws : List ℕ) (l : Layout) → l ≡ layout_of ws → Laid l
@@ -95,7 +93,8 @@ stage_clear ws l q most next laid goes on =
     }
 
 -- a word at a distance up to most from the kind's word of value 0 has that kind and a value up to most
-module _ (k y most low d : ℕ) (s : most < VALUES) (at : low ≡ k * VALUES) (top : low ≤ 15 * VALUES) (is : (d + low) % 2 ^ 32 ≡ y) (near : d ≤ most) where
+module _ (k y most low : ℕ) (s : most < VALUES) (at : low ≡ k * VALUES) (top : low ≤ 15 * VALUES) (word : Fits w32 y)
+    (near : (y + (2 ^ 32 - low)) % 2 ^ 32 ≤ most) where
   near_kind : kind_of y ≡ k
   unfolding kind_of
   near_kind = omega arith
@@ -140,18 +139,22 @@ module _ (ws : List ℕ) (q : ℕ) where
 
   module _ (p : ℕ) (same : read_from ws (q + 1) (length ws - (q + 1)) ≡ read_from ws p (length ws - p)) where
     -- one word more
-    pub pass_next : (most next end low d : ℕ) → Clear ws q most next → q < p → p < end → end ≡ min next (length ws) → most < VALUES
-        → low ≡ kind_of (get_or ws q 0) * VALUES → low ≤ 15 * VALUES → (d + low) % 2 ^ 32 ≡ get_or ws p 0 → d ≤ most
+    pub pass_next : (most next end low : ℕ) → Clear ws q most next → q < p → p < end → end ≡ min next (length ws) → most < VALUES
+        → low ≡ kind_of (get_or ws q 0) * VALUES → low ≤ 15 * VALUES → ((i : ℕ) → Fits w32 (get_or ws i 0)) → (get_or ws p 0 + (2 ^ 32 - low)) % 2 ^ 32 ≤ most
         → read_from ws (q + 1) (length ws - (q + 1)) ≡ read_from ws (p + 1) (length ws - (p + 1))
     unfolding kind_at value_at
-    pass_next most next end low d clear a b c s at top is near =
-        let kind : kind_at ws p ≡ kind_at ws q = near_kind (kind_at ws q) (get_or ws p 0) most low d s at top is near in
-        let value : value_at ws p ≤ most = near_value (kind_at ws q) (get_or ws p 0) most low d s at top is near in
+    pass_next most next end low clear a b c s at top words near =
+        let kind : kind_at ws p ≡ kind_at ws q = near_kind (kind_at ws q) (get_or ws p 0) most low s at top (words p) near in
+        let value : value_at ws p ≤ most = near_value (kind_at ws q) (get_or ws p 0) most low s at top (words p) near in
         same ∙ step_next ws p (omega arith) (clear.free p a (omega arith) kind value)
 
     -- the reader stops at p
     pub pass_stop : q < p → p ≤ length ws → Passed ws q p
     pass_stop a b = record { forth = a; inside = b; same = same }
+
+    -- or behind the last word
+    pub pass_end : q < p → p ≤ length ws → length ws ≤ p → Passed ws q (length ws)
+    pass_end a b d = let e : p ≡ length ws = omega arith in rw e at (pass_stop a b)
 
 -- ---- past the pairs
 

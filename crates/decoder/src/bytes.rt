@@ -5,22 +5,13 @@ ghost use Rattle.decoder.specs.Answers.{figure_of};
 
 use crate::{Fault, Refusal};
 
-// A byte as a part of a word.
-fn widen_byte(byte: u8) -> u32
-    ensures { (result ≡ byte) × (result < 256) }
-{
-    byte as u32
-}
-
 // The word of the four bytes from place q on, lowest first.
+#[tactic(auto, unfolding(model::specs::Bytes::word_from))]
 pub fn word_from(bytes: &[u8], q: usize) -> u32
     requires { q + 3 < length bytes.now }
     ensures { result ≡ word_from bytes.now q }
 {
-    widen_byte(bytes[q])
-        + 256 * widen_byte(bytes[q + 1])
-        + 65536 * widen_byte(bytes[q + 2])
-        + 16777216 * widen_byte(bytes[q + 3])
+    u32::from_le_bytes([bytes[q], bytes[q + 1], bytes[q + 2], bytes[q + 3]])
 }
 
 // Writes the words of the bytes into the lent words and says how many, or refuses and changes nothing.

@@ -18,99 +18,77 @@ pub struct Stage {
 }
 
 // The kind due at place q; 10 stands for a pair or the end word.
+#[tactic(auto, using(sums::proofs::Tests::tests), unfolding(model::specs::Reading::due_at))]
 fn due_at(l: Layout, q: usize) -> usize
     ensures { result ≡ due_at l q }
 {
     if q < 3 {
-        return q + 1;
+        q + 1
+    } else if q < l.triples {
+        4
+    } else if q < l.maints {
+        5 + (q - l.triples) % 3
+    } else if q < l.runnings {
+        8
+    } else if q < l.offs {
+        9
+    } else if q < l.pairs {
+        0
+    } else {
+        10
     }
-    if q < l.triples {
-        return 4;
-    }
-    if q < l.maints {
-        return 5 + (q - l.triples) % 3;
-    }
-    if q < l.runnings {
-        return 8;
-    }
-    if q < l.offs {
-        return 9;
-    }
-    if q < l.pairs {
-        return 0;
-    }
-    10
 }
 
 // Outside lo to hi.
+#[tactic(auto, using(sums::proofs::Tests::tests), unfolding(model::specs::Reading::within))]
 fn range(lo: usize, hi: usize, v: usize) -> Option<Fault>
     ensures { fault_number result ≡ within lo hi v }
 {
-    if lo <= v && v <= hi {
-        return None;
+    if v < lo || hi < v {
+        Some(Fault::OutOfRange)
+    } else {
+        None
     }
-    Some(Fault::OutOfRange)
 }
 
 // A window: an end outside the season, then the latest before the earliest.
+#[tactic(auto, using(sums::proofs::Tests::tests), unfolding(model::specs::Reading::window_fault))]
 fn window_fault(l: Layout, v: usize) -> Option<Fault>
     ensures { fault_number result ≡ window_fault l v }
 {
     let earliest = v / 64;
     let latest = v % 64;
-    if earliest < 1 {
-        return Some(Fault::OutOfRange);
+    if earliest < 1 || l.weeks < earliest || latest < 1 || l.weeks < latest {
+        Some(Fault::OutOfRange)
+    } else if latest < earliest {
+        Some(Fault::LatestBeforeEarliest)
+    } else {
+        None
     }
-    if l.weeks < earliest {
-        return Some(Fault::OutOfRange);
-    }
-    if latest < 1 {
-        return Some(Fault::OutOfRange);
-    }
-    if l.weeks < latest {
-        return Some(Fault::OutOfRange);
-    }
-    if latest < earliest {
-        return Some(Fault::LatestBeforeEarliest);
-    }
-    None
 }
 
 // A pair after a word of value prev: no pair of two units, or not above the one before; then a 121st.
+#[tactic(auto, using(sums::proofs::Tests::tests), unfolding(model::specs::Reading::pair_fault))]
 fn pair_fault(l: Layout, q: usize, prev: usize, v: usize) -> Option<Fault>
     ensures { fault_number result ≡ pair_fault l q prev v }
 {
     let a = v / 32;
     let b = v % 32;
-    if a < 1 {
-        return Some(Fault::BadPair);
+    if a < 1 || b <= a || l.units < b || (l.pairs < q && v <= prev) {
+        Some(Fault::BadPair)
+    } else if q.saturating_sub(l.pairs) < 120 {
+        None
+    } else {
+        Some(Fault::TooManyPairs)
     }
-    if b <= a {
-        return Some(Fault::BadPair);
-    }
-    if l.units < b {
-        return Some(Fault::BadPair);
-    }
-    if q <= l.pairs {
-        return None;
-    }
-    if v <= prev {
-        return Some(Fault::BadPair);
-    }
-    if q - l.pairs < 120 {
-        return None;
-    }
-    Some(Fault::TooManyPairs)
 }
 
 // The end word says how many words stand before it.
+#[tactic(auto, using(sums::proofs::Tests::tests), unfolding(model::specs::Reading::end_fault))]
 fn end_fault(q: usize, v: usize) -> Option<Fault>
     ensures { fault_number result ≡ end_fault q v }
 {
-    if v == q {
-        return None;
-    }
-    Some(Fault::BadEnd)
+    if v == q { None } else { Some(Fault::BadEnd) }
 }
 
 // A stage of one word: the next begins after it.
@@ -126,14 +104,19 @@ fn single_word(fault: Option<Fault>, q: usize) -> Stage
 }
 
 // A stage of words that may hold anything from 0 to most, up to the place next.
+#[tactic(auto, using(sums::proofs::Tests::tests), unfolding(model::specs::Reading::within))]
 fn section(most: u32, next: usize, v: usize) -> Stage
     ensures { (fault_number result.fault ≡ within 0 most v) × (result.most ≡ most) × (result.next ≡ next) }
 {
-    let fault = range(0, words::widen(most), v);
-    Stage { fault, most, next }
+    Stage {
+        fault: range(0, words::widen(most), v),
+        most,
+        next,
+    }
 }
 
 // A match over the kinds and ranges of kinds selects the test of the value and the next stage (D33).
+#[tactic(auto, using(sums::proofs::Tests::tests, crate::proofs::StageLaws::onwards), unfolding(model::specs::Reading::value_fault))]
 fn stage_of(l: Layout, q: usize, prev: usize, k: usize, v: usize) -> Stage
     requires laid { Laid l }
     requires q_bound { q + 1 < 2 ^ 64 }
@@ -157,6 +140,7 @@ fn stage_of(l: Layout, q: usize, prev: usize, k: usize, v: usize) -> Stage
 }
 
 // The kind first, then the value.
+#[tactic(auto, using(sums::proofs::Tests::tests), unfolding(model::specs::Reading::fault_for, model::specs::Reading::fits_due))]
 fn stage_for(l: Layout, q: usize, prev: usize, k: usize, v: usize) -> Stage
     requires laid { Laid l }
     requires q_bound { q + 1 < 2 ^ 64 }
@@ -164,26 +148,18 @@ fn stage_for(l: Layout, q: usize, prev: usize, k: usize, v: usize) -> Stage
     ensures onward { Onward l q k result.most result.next }
 {
     let due = due_at(l, q);
-    if k == due {
-        return stage_of(l, q, prev, k, v);
+    if k == due || (due == 10 && k == 15) {
+        stage_of(l, q, prev, k, v)
+    } else {
+        single_word(Some(Fault::WrongKind), q)
     }
-    if due != 10 {
-        return single_word(Some(Fault::WrongKind), q);
-    }
-    if k != 15 {
-        return single_word(Some(Fault::WrongKind), q);
-    }
-    stage_of(l, q, prev, k, v)
 }
 
 // The value of the word before place q; before the first there is none, and no test asks for it.
 fn value_before(words: &[u32], q: usize) -> usize
     ensures { result ≡ value_at words.now (q - 1) }
 {
-    if q == 0 {
-        return words::value_at(words, 0);
-    }
-    words::value_at(words, q - 1)
+    words::value_at(words, q.saturating_sub(1))
 }
 
 // The stage of the word at place q.
@@ -192,11 +168,9 @@ pub fn stage_at(words: &[u32], l: Layout, q: usize) -> Stage
     ensures test { fault_number result.fault ≡ fault_at words.now q }
     ensures onward { Onward l q (kind_at words.now q) result.most result.next }
 {
-    let prev = value_before(words, q);
     let word = words[q];
-    let k = words::kind_of(word);
-    let v = words::value_of(word);
-    stage_for(l, q, prev, k, v)
+    let prev = value_before(words, q);
+    stage_for(l, q, prev, words::kind_of(word), words::value_of(word))
 }
 
 // The word of value 0 and the same kind.
@@ -215,10 +189,10 @@ fn pass(words: &[u32], q: usize, s: Stage) -> usize
 {
     let most = s.most;
     let low = kind_floor(words[q]);
-    let end = words::min(s.next, words.len());
+    let end = s.next.min(words.len());
     let mut p = q + 1;
     while p < end {
-        let distance = std::num::wrapping_sub_u32(words[p], low);
+        let distance = words[p].wrapping_sub(low);
         if most < distance {
             return p;
         }
@@ -243,16 +217,14 @@ fn pass_pairs(words: &[u32], l: Layout, q: usize) -> usize
     ensures { Passed words.now q result }
 {
     let mut prev = words::value_of(words[q]);
-    let mut p = q + 1;
-    while p < words.len() {
+    for p in q + 1..words.len() {
         let word = words[p];
         if fault_as_pair(l, p, prev, word).is_some() {
             return p;
         }
         prev = words::value_of(word);
-        p += 1;
     }
-    p
+    words.len()
 }
 
 // Passes the word at place q and those that follow without a fault, as far as one loop can tell (D34).

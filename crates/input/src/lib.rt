@@ -8,10 +8,8 @@ ghost use Rattle.model.specs.Bytes.{file_end};
 pub fn file_end(bytes: &[u8]) -> usize
     ensures { (result ≡ file_end bytes.now) × (result ≤ length bytes.now) }
 {
-    let n = bytes.len() / 4;
-    for k in 0..n {
-        let word = decoder::word_from(bytes, k * 4);
-        if words::kind_of(word) == 15 {
+    for k in 0..bytes.len() / 4 {
+        if words::kind_of(decoder::word_from(bytes, k * 4)) == 15 {
             return k * 4 + 4;
         }
     }
@@ -22,18 +20,12 @@ pub fn file_end(bytes: &[u8]) -> usize
 pub fn front(words: &[u32], n: usize) -> &[u32]
     ensures { result.now ≡ take n words.now }
 {
-    if words.len() <= n {
-        return words;
-    }
-    &words[..n]
+    &words[..n.min(words.len())]
 }
 
 // The words after the first n.
 pub fn back(words: &[u32], n: usize) -> &[u32]
     ensures { result.now ≡ drop n words.now }
 {
-    if n < words.len() {
-        return &words[n..];
-    }
-    &words[words.len()..]
+    &words[n.min(words.len())..]
 }

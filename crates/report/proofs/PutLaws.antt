@@ -3,13 +3,15 @@
 use Prim.Native.Nat.{ℕ, zero, suc, ◌+◌, ◌-◌, ◌*◌, ◌/◌, ◌%◌, ◌≤◌, ◌<◌}
 use mathlib.Core.Path.{◌≡◌, refl, sym, ◌∙◌, ap, subst}
 use mathlib.Core.List.{List, [], ◌∷◌, ◌++◌}
+use Rattle.std.proofs.Common.{append_assoc}
 use native.Mathlib.Numerals.{add-one}
 use native.Mathlib.Omega.{arith}
 use lib.ListN.{length, get_or, take, drop, set, length-append}
-use lib.Seq.{length-take-le, take_at, drop_at, take-suc, take_all}
+use borrow.Rule.Slice.PartMut.{put_mid}
+use lib.Seq.{drop-drop, length-take-le, take_at, drop_at}
 use borrow.Author.Tests.{lt-ltb, le-ltb}
 use Rattle.lent.specs.Splice.{spliced}
-use Rattle.lent.proofs.SpliceLaws.{splice_none, splice_one, splice_behind, splice_length}
+use Rattle.lent.proofs.SpliceLaws.{splice_none, splice_one, splice_behind}
 use Rattle.model.specs.Lines.{digits_to, number_text, words_text, Written}
 use Rattle.report.specs.Put.{Put}
 
@@ -96,30 +98,13 @@ number_put d d' d'' at x k r room f g =
 
 -- ---- bytes as they are
 
--- none yet
-pub bytes_start : (d s : List ℕ) (at : ℕ) → d ≡ spliced at (take 0 s) d
-bytes_start d s at = splice_none at d
-
--- one more
-pub bytes_next : (d s l : List ℕ) (at i n : ℕ) → l ≡ spliced at (take i s) d → i < n → n ≡ length s → at + length s ≤ length d
-    → set l (at + i) (get_or s i 0) ≡ spliced at (take (i + 1) s) d
-bytes_next d s l at i n e h is room =
-    let within : i ≤ length s = omega arith in
-    let here : i < length s = omega arith in
-    let few : at + length (take i s) ≤ length d = omega (arith, length-take-le i s within) in
-    let there : at + i < length l = omega (arith, ap length e, splice_length at (take i s) d few) in
-    let low : at ≤ length d = omega arith in
-    let seam : at + i ≡ at + length (take i s) = omega (arith, length-take-le i s within) in
-    splice_one (at + i) (get_or s i 0) l there
-    ∙ ap (spliced (at + i) (get_or s i 0 ∷ [])) e
-    ∙ splice_behind at (at + i) (take i s) (get_or s i 0 ∷ []) d low seam
-    ∙ ap (λ (ws : List ℕ). spliced at ws d) (sym (take-suc s i 0 here) ∙ ap (λ (k : ℕ). take k s) (sym (add-one i)))
-
--- all of them
-pub bytes_ended : (d s l : List ℕ) (at i n : ℕ) → l ≡ spliced at (take i s) d → i ≤ n → n ≤ i → n ≡ length s → Put d l at (at + n) (length s) s
-bytes_ended d s l at i n e h g is =
-    let all : length s ≤ i = omega arith in
-    record { bytes = e ∙ ap (λ (ws : List ℕ). spliced at ws d) (take_all i s all); end = omega arith; short = omega arith }
+-- several, written over as many
+pub put_over : (d s e : List ℕ) (at : ℕ) → at + length s ≤ length d → e ≡ s → Put d (put_mid at (at + length s - at) d e) at (at + length s) (length s) s
+unfolding spliced
+put_over d s e at room same =
+    let seam : at + (at + length s - at) ≡ at + length s = omega arith in
+    let rest = drop-drop (at + length s - at) at d ∙ ap (λ (n : ℕ). drop n d) seam in
+    record { bytes = rw same (ap (λ (r : List ℕ). take at d ++ (s ++ r)) rest ∙ sym (append_assoc (take at d) s (drop (at + length s) d))); end = refl; short = omega arith }
 
 -- ---- words
 

@@ -33,11 +33,9 @@ fn put_bytes(text: &mut [u8], at: usize, s: &[u8]) -> usize
     requires { at + length s.now ≤ length text.old }
     ensures { Put text.old text.new at result (length s.now) s.now }
 {
-    let n = s.len();
-    for i in 0..n {
-        text[at + i] = s[i];
-    }
-    at + n
+    let end = at + s.len();
+    text[at..end].copy_from_slice(s);
+    end
 }
 
 // ---- numbers
@@ -80,8 +78,7 @@ fn put_words(text: &mut [u8], at: usize, answers: &[u32], place: usize, n: usize
 {
     let mut next = at;
     for i in 0..n {
-        let more = put_number(text, next, words::widen(answers[place + i]) as u64);
-        next = more;
+        next = put_number(text, next, u64::from(answers[place + i]));
     }
     next
 }
@@ -93,7 +90,7 @@ fn put_starts(text: &mut [u8], at: usize, answers: &[u32], b: usize, u: usize) -
     requires { (u ≤ 16) × (b + runs_at u ≤ length answers.now) × (at + STARTS ≤ length text.old) }
     ensures { Put text.old text.new at result STARTS (starts_text answers.now b u) }
 {
-    let cost = put_number(text, at, words::widen(answers[b + COST_PLACE]) as u64);
+    let cost = put_number(text, at, u64::from(answers[b + COST_PLACE]));
     let starts = put_bytes(text, cost, b" starts");
     put_words(text, starts, answers, b + START_PLACE, u)
 }
@@ -175,8 +172,7 @@ pub fn put_lines(text: &mut [u8], answers: &[u32], asks: usize, u: usize, w: usi
 {
     let mut next = 0;
     for k in 0..asks {
-        let more = put_line(text, next, answers, k, u, w);
-        next = more;
+        next = put_line(text, next, answers, k, u, w);
     }
     next
 }
@@ -187,7 +183,7 @@ pub fn put_refusal(text: &mut [u8], number: u32, place: usize) -> usize
     ensures { Put text.old text.new 0 result 50 (refusal_text number place) }
 {
     let refused = put_bytes(text, 0, b"refused");
-    let first = put_number(text, refused, words::widen(number) as u64);
+    let first = put_number(text, refused, u64::from(number));
     let second = put_number(text, first, place as u64);
     put_byte(text, second, 10)
 }
@@ -208,6 +204,6 @@ pub fn put_rule(text: &mut [u8], formula: u32) -> usize
     ensures { Put text.old text.new 0 result 26 (rule_text formula) }
 {
     let word = put_bytes(text, 0, b"rule");
-    let number = put_number(text, word, words::widen(formula) as u64);
+    let number = put_number(text, word, u64::from(formula));
     put_byte(text, number, 10)
 }

@@ -1,11 +1,10 @@
 -- A schedule laid out byte by byte: a week's place in an overhaul, the state of a cell, the bytes written so far, and the answer.
 -- Assumes nothing.
-use Prim.Native.Nat.{ℕ, ◌+◌, ◌*◌, ◌/◌, ◌%◌, ◌≤◌, ◌<◌}
+use Prim.Native.Nat.{ℕ, ◌*◌, ◌/◌, ◌%◌, ◌≤◌, ◌<◌}
 use mathlib.Core.Path.{◌≡◌, refl, sym}
 use mathlib.Core.Bool.{Bool, true, false}
 use mathlib.Core.List.{List, ◌++◌}
 use native.Mathlib.Omega.{arith}
-use lib.Dec.{ltb}
 use lib.ListN.{get_or, drop}
 use mir.Syntax.{w64}
 use mir.Val.{Fits}
@@ -23,18 +22,6 @@ use Rattle.model.specs.Reading.{read_of}
 use Rattle.model.specs.Drawing.{draw_verdict, drawn_into}
 use Rattle.instance.specs.Filed.{Filed}
 use Rattle.instance.proofs.FiledLaws.{filed, cells_are}
-
--- ---- an overhaul
-
--- a week before the start, as it stands in the list and as the code has it
-pub span_before : (t a b s d : ℕ) → t + 1 < a → a ≡ b → b ≡ s → false ≡ in_span s d t
-unfolding in_span
-span_before t a b s d h e f = let g : t + 1 < s = omega arith in rw (lt-leb s (t + 1) g)
-
--- a later week
-pub span_after : (t a b s c d : ℕ) → a ≤ t + 1 → a ≡ b → b ≡ s → c ≡ d → ltb (t + 1) (a + c) ≡ in_span s d t
-unfolding in_span
-span_after t a b s c d h e f g = let o : s ≤ t + 1 = omega arith in rw (le-leb s (t + 1) o, e, f, g)
 
 -- ---- the state of a cell
 

@@ -18,13 +18,11 @@ use model::Layout;
 fn number_at(list: &[u32], k: usize) -> u32
     ensures { result ≡ get_or list.now k 0 }
 {
-    if k < list.len() {
-        return list[k];
-    }
-    0
+    list.get(k).copied().unwrap_or(0)
 }
 
 // Whether week t lies in the overhaul of unit i.
+#[tactic(auto, using(sums::proofs::Tests::tests), unfolding(model::specs::Schedule::in_span))]
 fn overhauled(words: &[u32], starts: &[u32], l: Layout, t: usize, i: usize) -> bool
     requires filed { Filed words.now l }
     requires t_lt_weeks { (t < l.weeks) × (i < l.units) }
@@ -32,10 +30,7 @@ fn overhauled(words: &[u32], starts: &[u32], l: Layout, t: usize, i: usize) -> b
 {
     let start = words::widen(number_at(starts, i));
     let duration = instance::duration(words, l, i);
-    if t + 1 < start {
-        return false;
-    }
-    t + 1 < start + duration
+    start <= t + 1 && t + 1 < start + duration
 }
 
 // The state of unit i in week t.
@@ -45,12 +40,12 @@ fn state(words: &[u32], starts: &[u32], runs: &[u32], l: Layout, t: usize, i: us
     ensures { result ≡ lay_out (problem_of words.now) (schedule_of starts.now runs.now) t i }
 {
     if overhauled(words, starts, l, t, i) {
-        return 2;
+        2
+    } else if sets::has(number_at(runs, t), i) {
+        1
+    } else {
+        0
     }
-    if sets::has(number_at(runs, t), i) {
-        return 1;
-    }
-    0
 }
 
 // The state that byte q of the grid tells.
@@ -60,8 +55,7 @@ fn drawn_state(words: &[u32], starts: &[u32], runs: &[u32], l: Layout, q: usize)
     ensures { result ≡ state_at (problem_of words.now)
         (lay_out (problem_of words.now) (schedule_of starts.now runs.now)) q }
 {
-    let units = l.units;
-    state(words, starts, runs, l, q / units, q % units)
+    state(words, starts, runs, l, q / l.units, q % l.units)
 }
 
 // Writes the grid; the bytes beyond are kept.
@@ -71,8 +65,7 @@ fn write(words: &[u32], starts: &[u32], runs: &[u32], l: Layout, grid: &mut [u8]
     ensures { grid.new ≡
         drawn_into accepted (problem_of words.now) (schedule_of starts.now runs.now) grid.old }
 {
-    let bytes = l.weeks * l.units;
-    for q in 0..bytes {
+    for q in 0..l.weeks * l.units {
         grid[q] = drawn_state(words, starts, runs, l, q);
     }
 }

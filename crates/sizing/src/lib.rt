@@ -13,16 +13,6 @@ use decoder::Refusal;
 // 2^28 - 1: the greatest sizing figure.
 pub const MOST_FIGURE: usize = 268435455;
 
-// The smaller of n and the greatest figure.
-fn capped(n: usize) -> usize
-    ensures { (result ≡ min MOST_FIGURE n) × (result ≤ MOST_FIGURE) }
-{
-    if MOST_FIGURE < n {
-        return MOST_FIGURE;
-    }
-    n
-}
-
 // The smaller of the greatest figure and w + w^2 + .. + w^u. What lies above is cut off at each step, and what is cut off stays so.
 fn space_bound(w: usize, u: usize) -> usize
     requires { w < VALUES }
@@ -31,8 +21,8 @@ fn space_bound(w: usize, u: usize) -> usize
     let mut power = 1;
     let mut sum = 0;
     for j in 0..u {
-        power = capped(power * w);
-        sum = capped(sum + power);
+        power = MOST_FIGURE.min(power * w);
+        sum = MOST_FIGURE.min(sum + power);
     }
     sum
 }

@@ -9,7 +9,7 @@ use Rattle.checker.proofs.grid_cost.Given as goal
 
 abbrev pub invariant-loop-t : goal.invariant-loop-t
 invariant-loop-t l =
-    (l.t ≤ l.weeks) × (l.sum.0 ≤ 4294967296 * l.t) × (l.sum.0 ≡ sum_to l.t (week_cost (problem_of l.words) (cell l.l.units l.grid)))
+    (l.t ≤ l.l.weeks) × (l.sum.0 ≤ 4294967296 * l.t) × (l.sum.0 ≡ sum_to l.t (week_cost (problem_of l.words) (cell l.l.units l.grid)))
 
 abbrev pub decreases-loop-t : goal.decreases-loop-t
-decreases-loop-t l = l.weeks - l.t
+decreases-loop-t l = l.l.weeks - l.t

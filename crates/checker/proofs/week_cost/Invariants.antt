@@ -9,7 +9,7 @@ use Rattle.checker.proofs.week_cost.Given as goal
 
 abbrev pub invariant-loop-i : goal.invariant-loop-i
 invariant-loop-i l =
-    (l.i ≤ l.units) × (l.sum.0 ≤ VALUES * l.i) × (l.sum.0 ≡ sum_to l.i (charge (problem_of l.words) (cell l.l.units l.grid) l.t))
+    (l.i ≤ l.l.units) × (l.sum.0 ≤ VALUES * l.i) × (l.sum.0 ≡ sum_to l.i (charge (problem_of l.words) (cell l.l.units l.grid) l.t))
 
 abbrev pub decreases-loop-i : goal.decreases-loop-i
-decreases-loop-i l = l.units - l.i
+decreases-loop-i l = l.l.units - l.i

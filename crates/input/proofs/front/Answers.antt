@@ -1,10 +1,10 @@
--- `input::front` meets its contract: all words, or the first n of more.
+-- `input::front` meets its contract: cut at n words, or at all of fewer.
 -- Assumes nothing.
-use Rattle.input.proofs.InputLaws.{front_length, front_all}
+use Rattle.input.proofs.InputLaws.{front_length, front_is}
 use Rattle.input.proofs.front.Goals as goal
-
-pub returns-then-words-n : goal.returns-then-words-n
-returns-then-words-n c = search front_all
 
 pub slice_bounds-result-end : goal.slice_bounds-result-end
 slice_bounds-result-end c = search front_length
+
+pub returns : goal.returns
+returns c = search front_is

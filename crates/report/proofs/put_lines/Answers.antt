@@ -5,8 +5,8 @@ use Rattle.report.proofs.put_lines.Goals as goal
 pub loop-k-init : goal.loop-k-init
 loop-k-init c = (search rules, (search rules, (search rules, (refl, search lines_start))))
 
-pub put_line-more-requires : goal.put_line-more-requires
-put_line-more-requires c = (search lines_whole, search lines_room, search lines_few)
+pub put_line-next-requires : goal.put_line-next-requires
+put_line-next-requires c = (search lines_whole, search lines_room, search lines_few)
 
 pub loop-k-preserved : goal.loop-k-preserved
 loop-k-preserved c = (search rules, (search rules, (search rules, (search rules, search lines_next))))

@@ -5,8 +5,8 @@ use Rattle.report.proofs.put_words.Goals as goal
 pub loop-i-init : goal.loop-i-init
 loop-i-init c = (search rules, (search rules, (search rules, (refl, search words_start))))
 
-pub put_number-more-requires : goal.put_number-more-requires
-put_number-more-requires c = search words_room
+pub put_number-next-requires : goal.put_number-next-requires
+put_number-next-requires c = search words_room
 
 pub loop-i-preserved : goal.loop-i-preserved
 loop-i-preserved c = (search rules, (search rules, (search rules, (search rules, search words_next))))

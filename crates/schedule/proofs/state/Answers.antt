@@ -9,5 +9,5 @@ returns-then-overhauled c = search state_maint
 pub returns-then-has : goal.returns-then-has
 returns-then-has c = search state_on
 
-pub returns : goal.returns
-returns c = search state_off
+pub returns-else-has : goal.returns-else-has
+returns-else-has c = search state_off

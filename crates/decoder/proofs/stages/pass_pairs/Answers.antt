@@ -1,5 +1,5 @@
 use Rattle.std.proofs.Common.{refl, rules}
-use Rattle.decoder.proofs.StepLaws.{pass_stop, pairs_next, prev_next}
+use Rattle.decoder.proofs.StepLaws.{pass_stop, pass_end, pairs_next, prev_next}
 use Rattle.decoder.proofs.stages.pass_pairs.Goals as goal
 
 pub loop-p-init : goal.loop-p-init
@@ -12,4 +12,4 @@ pub loop-p-preserved : goal.loop-p-preserved
 loop-p-preserved c = (search rules, search rules, search prev_next, search pairs_next)
 
 pub returns : goal.returns
-returns c = search pass_stop
+returns c = search pass_end
