@@ -16,8 +16,7 @@ use Rattle.model.proofs.FileLaws.{ranged, fair}
 use Rattle.instance.specs.declared.Euro.{Euro}
 use Rattle.instance.specs.Filed.{Filed}
 use Rattle.blame.specs.Placed.{first_units, Standing}
-use Rattle.nogood.specs.declared.Scan.{Scan}
-use Rattle.nogood.specs.declared.Scan.TheVariants.{Cut}
+use Rattle.std.proofs.Common.{Option, Some}
 use Rattle.nogood.specs.Recall.{Recall, Recalled}
 use Rattle.nogood.proofs.StockLaws.{recall_closed}
 use Rattle.tables.specs.Tables.{price_in}
@@ -75,7 +74,7 @@ module _ (ws : List ℕ) (l : Layout) (us rows ys : List ℕ) (at : Visit) (w me
   }
 
   -- a noted conflict is met: its units are to blame
-  judged_recalled : (h : Scan) (b : ℕ) → h ≡ Cut b → Recalled w at.node.starts (placed_after at.node) at.state.limit.0 h
+  judged_recalled : (h : Option ℕ) (b : ℕ) → h ≡ Some b → Recalled w at.node.starts (placed_after at.node) at.state.limit.0 h
       → Blames (problem_of ws) (placed_after at.node) (entry at.node.starts) at.state.limit.0 b
   unfolding StartDue
   judged_recalled h b e r =
@@ -94,7 +93,7 @@ module _ (ws : List ℕ) (l : Layout) (us rows ys : List ℕ) (at : Visit) (w me
   unfolding StartDue StartJudged
   judged_so zs memo₁ v said recalls = record { due = d; said = said; recalls = recalls }
 
-  pub judged_met : (h : Scan) (b : ℕ) → h ≡ Cut b → Recalled w at.node.starts (placed_after at.node) at.state.limit.0 h
+  pub judged_met : (h : Option ℕ) (b : ℕ) → h ≡ Some b → Recalled w at.node.starts (placed_after at.node) at.state.limit.0 h
       → StartJudged ws l us rows ys at w memo ys memo (Fails b)
   unfolding StartDue StartJudged
   judged_met h b e r = record { due = d; said = judged_recalled h b e r; recalls = d.walking.recalls }

@@ -17,7 +17,6 @@ use bound::Trial;
 use dual::Node;
 use instance::Euro;
 use model::Layout;
-use nogood::Scan;
 use state::{State, Step};
 use tables::TABLES;
 
@@ -108,8 +107,7 @@ fn test_start(
     let st = at.state;
     let starts = node.starts;
     let limit = st.limit;
-    let h = state::recalled(table, st, starts, node.placed, node.unit);
-    if let Scan::Cut(b) = h {
+    if let Some(b) = state::recalled(table, st, starts, node.placed, node.unit) {
         return Trial::Fails(b);
     }
     bound::test(words, l, tables, rows, node, limit, values, memo)

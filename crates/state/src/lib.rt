@@ -9,7 +9,7 @@ ghost use Rattle.nogood.specs.Recall.{Recalled};
 ghost use Rattle.state.specs.State.{MOST_TRIES, tried_once, stopped_at, improved_by, dead_at, renewed_at, limited_to, with_table, indexed_at, DeadEndNoted, NoneNoted, EndNoted, WalkStart};
 
 use instance::Euro;
-use nogood::{CHOICE_RADIX, Scan};
+use nogood::CHOICE_RADIX;
 
 // The walk's state: the starts of the best schedule so far, the mark of a walk that stopped, for each unit where in the table the last nogood that
 // ends at it ends, the limit that a schedule has to stay below, the words of the table in use, the tries made and the most that may be made, and
@@ -184,7 +184,7 @@ fn index(table: &[u32], used: usize) -> [u16; 16]
 
 // A nogood that begins in the words before the place where the last one ends that ends at unit j, of which the starts of unit j and of the units
 // placed have all choices, and whose bound is at or above the walk's own (D58).
-pub fn recalled(table: &[u32], st: State, starts: [u8; 16], placed: u32, j: usize) -> Scan
+pub fn recalled(table: &[u32], st: State, starts: [u8; 16], placed: u32, j: usize) -> Option<u32>
     requires { j < 16 }
     ensures { Recalled table.now starts (with (has placed) j) st.limit.0 result }
 {

@@ -21,8 +21,7 @@ use Rattle.blame.specs.Placed.{first_units, paid}
 use Rattle.blame.proofs.ClosedLaws.{closed_more}
 use Rattle.blame.proofs.PlacedLaws.{leaf_closed}
 use Rattle.memo.specs.Memo.{Right, Others}
-use Rattle.nogood.specs.declared.Scan.{Scan}
-use Rattle.nogood.specs.declared.Scan.TheVariants.{Cut}
+use Rattle.std.proofs.Common.{Option, Some}
 use Rattle.nogood.specs.Recall.{Recall, Recalled}
 use Rattle.nogood.proofs.StockLaws.{recall_closed}
 use Rattle.tables.specs.Tables.{price_in, total_in}
@@ -73,7 +72,7 @@ module _ (ws : List ℕ) (l : Layout) (us rows ys : List ℕ) (at : Visit) (w me
   }
 
   -- a noted conflict is met: its units are to blame
-  judged_recalled : (h : Scan) (b : ℕ) → h ≡ Cut b → Recalled w at.node.starts (placed_after at.node) at.state.limit.0 h
+  judged_recalled : (h : Option ℕ) (b : ℕ) → h ≡ Some b → Recalled w at.node.starts (placed_after at.node) at.state.limit.0 h
       → Blames (problem_of ws) (placed_after at.node) (entry at.node.starts) at.state.limit.0 b
   unfolding TryDue
   judged_recalled h b e r =
@@ -93,7 +92,7 @@ module _ (ws : List ℕ) (l : Layout) (us rows ys : List ℕ) (at : Visit) (w me
   unfolding TryDue TryJudged
   judged_so zs memo₁ v said recalls = record { due = d; said = said; recalls = recalls }
 
-  pub judged_met : (h : Scan) (b : ℕ) → h ≡ Cut b → Recalled w at.node.starts (placed_after at.node) at.state.limit.0 h
+  pub judged_met : (h : Option ℕ) (b : ℕ) → h ≡ Some b → Recalled w at.node.starts (placed_after at.node) at.state.limit.0 h
       → TryJudged ws l us rows ys at w memo ys memo (Fails b)
   unfolding TryDue TryJudged
   judged_met h b e r = record { due = d; said = judged_recalled h b e r; recalls = d.walking.recalls }

@@ -3,11 +3,11 @@
 use Rattle.walk.proofs.JudgedLaws.{test_few, test_due, judged_so, judged_met}
 use Rattle.walk.proofs.test_start.Goals as goal
 
-pub recalled-h-requires : goal.recalled-h-requires
-recalled-h-requires c = search test_few
+pub recalled-requires : goal.recalled-requires
+recalled-requires c = search test_few
 
-pub returns-in-Cut : goal.returns-in-Cut
-returns-in-Cut c = search judged_met
+pub returns-in-Some : goal.returns-in-Some
+returns-in-Some c = search judged_met
 
 pub test-requires : goal.test-requires
 test-requires c = search test_due
