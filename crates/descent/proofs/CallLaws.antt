@@ -24,7 +24,7 @@ use Rattle.tables.specs.Tables.{price_in}
 use Rattle.relaxation.specs.Relaxed.{MemoTrue}
 use Rattle.dual.specs.declared.Node.{Node}
 use Rattle.dual.specs.Blame.{placed_after, IsNext}
-use Rattle.bound.specs.declared.Trial.TheVariants.{Holds, Fails}
+use Rattle.std.proofs.Common.{Ok, Err}
 use Rattle.bound.specs.Rows.{RowsWith}
 use Rattle.bound.specs.Tests.{Blames, Judged}
 use Rattle.state.specs.declared.State.{State}
@@ -122,7 +122,7 @@ module _ (ws : List ℕ) (l : Layout) (us rows ys : List ℕ) (at : Visit) (w me
     tried_is = j.state_is
 
     -- it fails
-    pub try_fails : (b : ℕ) (s : State) (e : Descent) → r.trial ≡ Fails b → s ≡ r.at.state → e.state ≡ s → e.whole ≡ false
+    pub try_fails : (b : ℕ) (s : State) (e : Descent) → r.trial ≡ Err b → s ≡ r.at.state → e.state ≡ s → e.whole ≡ false
         → TryDone (problem_of ws) w w at e
     unfolding TryDue StartTaken TryDone
     try_fails b s e t es is off =
@@ -143,7 +143,7 @@ module _ (ws : List ℕ) (l : Layout) (us rows ys : List ℕ) (at : Visit) (w me
           };
         }
 
-    module _ (c : Euro) (e : r.trial ≡ Holds c) where
+    module _ (c : Euro) (e : r.trial ≡ Ok c) where
       next_is : IsNext at.node c r.at.node
       next_is = next ws l us rows ys at w memo zs memo₁ r j c e
 

@@ -14,8 +14,7 @@ use Rattle.sums.proofs.NumSetLaws.{zero_has}
 use Rattle.model.specs.declared.Layout.{Layout}
 use Rattle.model.specs.Words.{problem_of}
 use Rattle.instance.specs.declared.Euro.{Euro}
-use Rattle.bound.specs.declared.Trial.{Trial}
-use Rattle.bound.specs.declared.Trial.TheVariants.{Holds}
+use Rattle.std.proofs.Common.{Result, Ok}
 use Rattle.bound.specs.Tests.{AllStand, RootValues, Rooted, RootDue}
 use Rattle.bound.proofs.RowLaws.{rows_none}
 use Rattle.state.specs.declared.State.{State}
@@ -42,7 +41,7 @@ module _ (ws : List ℕ) (l : Layout) (us w memo : List ℕ) (st : State) (d : D
     }
 
     -- no unit is placed
-    pub descent_begins : (v : Trial) (c : Euro) (rows ys : List ℕ) (at : Visit) → Rooted (problem_of ws) us limit.0 v → v ≡ Holds c → rows ≡ replicate 52 0
+    pub descent_begins : (v : Result Euro ℕ) (c : Euro) (rows ys : List ℕ) (at : Visit) → Rooted (problem_of ws) us limit.0 v → v ≡ Ok c → rows ≡ replicate 52 0
         → RootValues us ys → AtRoot c.0 s at → UnitDue ws l us rows ys at w memo
     unfolding UnitDue
     descent_begins v c rows ys at said e none fronts root =

@@ -10,7 +10,6 @@ ghost use Rattle.tables.specs.Tables.{price_in};
 ghost use Rattle.relaxation.specs.Relaxed.{MemoTrue};
 ghost use Rattle.descent.specs.Descent.{DescentDue, Descended, UnitDue, TryDue, HeldDue, Told, Found, UnitDone, TryDone, HeldDone, IsAt, Keeps};
 
-use bound::Trial;
 use dual::Node;
 use instance::Euro;
 use model::Layout;
@@ -182,8 +181,8 @@ fn lower_start(
     let below = tried.at;
     let v = tried.trial;
     match v {
-        Trial::Fails(_) => next_start(below.state),
-        Trial::Holds(_) => {
+        Err(_) => next_start(below.state),
+        Ok(_) => {
             let out = bound::placed_rows(words, l, rows, starts, node.unit);
             lower_held(words, l, tables, &out, &next, below, table, memo)
         }
@@ -249,8 +248,8 @@ pub fn descend(
     let s = state::limited(st, limit);
     let v = bound::root(words, l, tables, limit);
     match v {
-        Trial::Fails(_) => given_up(s),
-        Trial::Holds(bound) => {
+        Err(_) => given_up(s),
+        Ok(bound) => {
             let rows = bound::no_rows();
             let values = bound::first_values(tables);
             let at = probe::root_visit(bound, s, true);

@@ -23,8 +23,7 @@ use Rattle.tables.specs.Tables.{price_in}
 use Rattle.relaxation.specs.Relaxed.{MemoTrue}
 use Rattle.dual.specs.declared.Node.{Node}
 use Rattle.dual.specs.Blame.{placed_after, IsNext}
-use Rattle.bound.specs.declared.Trial.{Trial}
-use Rattle.bound.specs.declared.Trial.TheVariants.{Holds, Fails}
+use Rattle.std.proofs.Common.{Result, Ok, Err}
 use Rattle.bound.specs.Tests.{Blames, Judged, TestDue}
 use Rattle.state.specs.declared.State.{State}
 use Rattle.state.specs.declared.Step.{Step}
@@ -88,32 +87,32 @@ module _ (ws : List ℕ) (l : Layout) (us rows ys : List ℕ) (at : Visit) (w me
       }
 
   -- it is judged
-  pub judged_so : (zs memo₁ : List ℕ) (v : Trial) → Judged (problem_of ws) us at.node at.state.limit.0 zs v
+  pub judged_so : (zs memo₁ : List ℕ) (v : Result Euro ℕ) → Judged (problem_of ws) us at.node at.state.limit.0 zs v
       → MemoTrue (problem_of ws) (price_in us) memo₁ → StartJudged ws l us rows ys at w memo zs memo₁ v
   unfolding StartDue StartJudged
   judged_so zs memo₁ v said recalls = record { due = d; said = said; recalls = recalls }
 
   pub judged_met : (h : Option ℕ) (b : ℕ) → h ≡ Some b → Recalled w at.node.starts (placed_after at.node) at.state.limit.0 h
-      → StartJudged ws l us rows ys at w memo ys memo (Fails b)
+      → StartJudged ws l us rows ys at w memo ys memo (Err b)
   unfolding StartDue StartJudged
   judged_met h b e r = record { due = d; said = judged_recalled h b e r; recalls = d.walking.recalls }
 
 -- where the probe goes on after a verdict
-pub deeper_fails : (at : Visit) (v : Trial) (b : ℕ) (s : State) (r : Tried) → s ≡ tried_once at.state → v ≡ Fails b → r.trial ≡ Fails b
+pub deeper_fails : (at : Visit) (v : Result Euro ℕ) (b : ℕ) (s : State) (r : Tried) → s ≡ tried_once at.state → v ≡ Err b → r.trial ≡ Err b
     → r.at.node ≡ at.node → r.at.state ≡ s → Deeper at v r
 deeper_fails at v b s r es e et en est =
-    record { trial_is = et ∙ sym e; node_is = subst (λ (x : Trial). GoesTo at.node x r.at.node) (sym e) en; state_is = est ∙ es }
+    record { trial_is = et ∙ sym e; node_is = subst (λ (x : Result Euro ℕ). GoesTo at.node x r.at.node) (sym e) en; state_is = est ∙ es }
 
-pub deeper_holds : (at : Visit) (v : Trial) (c : Euro) (s : State) (node : Node) (r : Tried) → s ≡ tried_once at.state → IsNext at.node c node
-    → v ≡ Holds c → r.trial ≡ Holds c → r.at.node ≡ node → r.at.state ≡ s → Deeper at v r
+pub deeper_holds : (at : Visit) (v : Result Euro ℕ) (c : Euro) (s : State) (node : Node) (r : Tried) → s ≡ tried_once at.state → IsNext at.node c node
+    → v ≡ Ok c → r.trial ≡ Ok c → r.at.node ≡ node → r.at.state ≡ s → Deeper at v r
 deeper_holds at v c s node r es next e et en est = record {
   trial_is = et ∙ sym e;
-  node_is = subst (λ (x : Trial). GoesTo at.node x r.at.node) (sym e) (subst (IsNext at.node c) (sym en) next);
+  node_is = subst (λ (x : Result Euro ℕ). GoesTo at.node x r.at.node) (sym e) (subst (IsNext at.node c) (sym en) next);
   state_is = est ∙ es;
 }
 
 -- the start is judged within the budget
-module _ (ws : List ℕ) (l : Layout) (us rows ys : List ℕ) (at : Visit) (w memo zs memo₁ : List ℕ) (v : Trial)
+module _ (ws : List ℕ) (l : Layout) (us rows ys : List ℕ) (at : Visit) (w memo zs memo₁ : List ℕ) (v : Result Euro ℕ)
     (j : StartJudged ws l us rows ys at w memo zs memo₁ v) where
   -- its unit is one of sixteen
   pub judged_few : at.node.unit < 16
@@ -124,7 +123,7 @@ module _ (ws : List ℕ) (l : Layout) (us rows ys : List ℕ) (at : Visit) (w me
   unfolding StartJudged StartTaken
   judged_taken r left d = record {
     judging = subst (Judging ws l us rows ys at w memo zs memo₁) (sym d.trial_is) j;
-    node_is = subst (λ (x : Trial). GoesTo at.node x r.at.node) (sym d.trial_is) d.node_is;
+    node_is = subst (λ (x : Result Euro ℕ). GoesTo at.node x r.at.node) (sym d.trial_is) d.node_is;
     state_is = d.state_is;
     left = left;
   }

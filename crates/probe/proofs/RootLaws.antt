@@ -13,8 +13,7 @@ use Rattle.model.specs.declared.Layout.{Layout}
 use Rattle.model.specs.Problem.{Problem}
 use Rattle.model.specs.Words.{problem_of}
 use Rattle.instance.specs.declared.Euro.{Euro}
-use Rattle.bound.specs.declared.Trial.{Trial}
-use Rattle.bound.specs.declared.Trial.TheVariants.{Holds, Fails}
+use Rattle.std.proofs.Common.{Result, Ok, Err}
 use Rattle.bound.specs.Tests.{Blames, AllStand, AllBlame, RootValues, Rooted, RootDue}
 use Rattle.bound.proofs.RowLaws.{rows_none}
 use Rattle.state.specs.declared.State.{State}
@@ -36,9 +35,9 @@ module _ (ws : List ℕ) (l : Layout) (us w memo : List ℕ) (st : State) (d : P
   pub root_due : RootDue ws l us st.limit.0
   root_due = record { filed = d.walking.filed; dual = d.walking.dual; small = d.small }
 
-  module _ (v : Trial) (said : Rooted (problem_of ws) us st.limit.0 v) where
+  module _ (v : Result Euro ℕ) (said : Rooted (problem_of ws) us st.limit.0 v) where
     -- before any unit is placed nothing is left below the limit
-    pub root_fails : (b : ℕ) (step : Step) → v ≡ Fails b → step ≡ dead_at st 0 → RootDone (problem_of ws) w w st step
+    pub root_fails : (b : ℕ) (step : Step) → v ≡ Err b → step ≡ dead_at st 0 → RootDone (problem_of ws) w w st step
     root_fails b step e is =
         let h : AllBlame (problem_of ws) st.limit.0 b = subst (Rooted (problem_of ws) us st.limit.0) e said in
         subst (RootDone (problem_of ws) w w st) (sym is) (record {
@@ -49,7 +48,7 @@ module _ (ws : List ℕ) (l : Layout) (us w memo : List ℕ) (st : State) (d : P
         })
 
     -- no unit is placed
-    pub root_places : (c : Euro) (rows ys : List ℕ) (at : Visit) → v ≡ Holds c → rows ≡ replicate 52 0 → RootValues us ys → AtRoot c.0 st at
+    pub root_places : (c : Euro) (rows ys : List ℕ) (at : Visit) → v ≡ Ok c → rows ≡ replicate 52 0 → RootValues us ys → AtRoot c.0 st at
         → PlaceDue ws l us rows ys at w memo
     unfolding PlaceDue
     root_places c rows ys at e none fronts root =

@@ -20,8 +20,7 @@ use Rattle.tables.specs.Tables.{price_in}
 use Rattle.relaxation.specs.Relaxed.{MemoTrue}
 use Rattle.dual.specs.declared.Node.{Node}
 use Rattle.dual.specs.Blame.{placed_after, next_node, IsNext}
-use Rattle.bound.specs.declared.Trial.{Trial}
-use Rattle.bound.specs.declared.Trial.TheVariants.{Holds, Fails}
+use Rattle.std.proofs.Common.{Result, Ok, Err}
 use Rattle.bound.specs.Rows.{Rows, RowsDue, RowsWith}
 use Rattle.bound.specs.Tests.{Stands, Judged}
 use Rattle.bound.proofs.RowLaws.{rows_joined}
@@ -77,7 +76,7 @@ module _ (ws : List ℕ) (l : Layout) (us rows ys : List ℕ) (at : Visit) (w me
       record { unit = u.unit; permits = u.permits; long = u.opened.tallied.long; tallies = u.opened.tallied.tallies }
 
   -- it fails
-  pub taken_fails : (b : ℕ) (s : State) (step : Step) → r.trial ≡ Fails b → s ≡ r.at.state → step ≡ dead_at s b → StartDone (problem_of ws) w w at step
+  pub taken_fails : (b : ℕ) (s : State) (step : Step) → r.trial ≡ Err b → s ≡ r.at.state → step ≡ dead_at s b → StartDone (problem_of ws) w w at step
   unfolding StartTaken StartDone
   taken_fails b s step t es is =
       let g : s ≡ tried_once at.state = es ∙ j.state_is in
@@ -87,10 +86,10 @@ module _ (ws : List ℕ) (l : Layout) (us rows ys : List ℕ) (at : Visit) (w me
         goes = goes_tried (problem_of ws) w at.state j.left;
       })
 
-  module _ (c : Euro) (e : r.trial ≡ Holds c) where
+  module _ (c : Euro) (e : r.trial ≡ Ok c) where
     pub next : IsNext at.node c r.at.node
     unfolding StartTaken
-    next = subst (λ (x : Trial). GoesTo at.node x r.at.node) e j.node_is
+    next = subst (λ (x : Result Euro ℕ). GoesTo at.node x r.at.node) e j.node_is
 
     counted : r.at.state ≡ tried_once at.state
     unfolding StartTaken

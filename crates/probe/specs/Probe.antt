@@ -18,8 +18,8 @@ use Rattle.relaxation.specs.Relaxed.{MemoTrue}
 use Rattle.dual.specs.declared.Node.{Node}
 use Rattle.dual.specs.Blame.{placed_after, IsNext}
 use Rattle.bound.specs.Rows.{Rows}
-use Rattle.bound.specs.declared.Trial.{Trial}
-use Rattle.bound.specs.declared.Trial.TheVariants.{Holds, Fails}
+use Rattle.std.specs.Prelude.{Result, Ok, Err}
+use Rattle.instance.specs.declared.Euro.{Euro}
 use Rattle.bound.specs.Tests.{Blames, Stands, Judged}
 use Rattle.state.specs.declared.State.{State}
 use Rattle.state.specs.declared.Step.{Step}
@@ -141,21 +141,21 @@ unfoldable pub WeighDue : (ws : List ℕ) → Layout → (us rows ys : List ℕ)
 WeighDue ws l us rows ys at memo = WeighNeeds ws l us rows ys at memo
 
 -- a start that was to be tried was judged; what it asked holds still
-pub record Judging (ws : List ℕ) (l : Layout) (us rows ys : List ℕ) (at : Visit) (w memo zs memo₁ : List ℕ) (v : Trial) : Type 0 where
+pub record Judging (ws : List ℕ) (l : Layout) (us rows ys : List ℕ) (at : Visit) (w memo zs memo₁ : List ℕ) (v : Result Euro ℕ) : Type 0 where
   pub due : StartNeeds ws l us rows ys at w memo
   pub said : Judged (problem_of ws) us at.node at.state.limit.0 zs v
   pub recalls : MemoTrue (problem_of ws) (price_in us) memo₁
 
-unfoldable pub StartJudged : (ws : List ℕ) → Layout → (us rows ys : List ℕ) → Visit → (w memo zs memo₁ : List ℕ) → Trial → Type 0
+unfoldable pub StartJudged : (ws : List ℕ) → Layout → (us rows ys : List ℕ) → Visit → (w memo zs memo₁ : List ℕ) → Result Euro ℕ → Type 0
 StartJudged ws l us rows ys at w memo zs memo₁ v = Judging ws l us rows ys at w memo zs memo₁ v
 
 -- where the probe goes on: where the start holds its unit is placed
-abbrev pub GoesTo : Node → Trial → Node → Type 0
-GoesTo node (Holds r) next = IsNext node r next
-GoesTo node (Fails b) next = next ≡ node
+abbrev pub GoesTo : Node → Result Euro ℕ → Node → Type 0
+GoesTo node (Ok r) next = IsNext node r next
+GoesTo node (Err b) next = next ≡ node
 
 -- and the try is counted
-pub record Deeper (at : Visit) (v : Trial) (r : Tried) : Type 0 where
+pub record Deeper (at : Visit) (v : Result Euro ℕ) (r : Tried) : Type 0 where
   pub trial_is : r.trial ≡ v
   pub node_is : GoesTo at.node v r.at.node
   pub state_is : r.at.state ≡ tried_once at.state

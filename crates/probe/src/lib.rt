@@ -13,7 +13,6 @@ ghost use Rattle.relaxation.specs.Relaxed.{MemoTrue};
 ghost use Rattle.state.specs.State.{MOST_TRIES, DeadEndNoted};
 ghost use Rattle.probe.specs.Probe.{Chosen, IsStart, AtRoot, PlaceDue, StartDue, StartJudged, Deeper, StartTaken, IsLeaf, WeighDue, Weighed, Stops, PlaceDone, StartDone, RootDone, ProbeDue};
 
-use bound::Trial;
 use dual::Node;
 use instance::Euro;
 use model::Layout;
@@ -84,7 +83,7 @@ fn note_blame(
 // A start that was judged, and where the probe goes on: the try is counted, and where the start holds one unit more is placed at the bound with it.
 #[derive(Clone, Copy)]
 pub struct Tried {
-    pub trial: Trial,
+    pub trial: Result<Euro, u32>,
     pub at: Visit,
 }
 
@@ -98,7 +97,7 @@ fn test_start(
     table: &[u32],
     values: &mut [u32],
     memo: &mut [u32],
-) -> Trial
+) -> Result<Euro, u32>
     requires { StartDue words.now l tables.now rows.now values.old at table.now memo.old }
     ensures { StartJudged words.now l tables.now rows.now values.old at table.now memo.old
         values.new memo.new result }
@@ -108,13 +107,13 @@ fn test_start(
     let starts = node.starts;
     let limit = st.limit;
     if let Some(b) = state::recalled(table, st, starts, node.placed, node.unit) {
-        return Trial::Fails(b);
+        return Err(b);
     }
     bound::test(words, l, tables, rows, node, limit, values, memo)
 }
 
 // Where the probe goes on after a verdict.
-fn deeper(at: Visit, v: Trial) -> Tried
+fn deeper(at: Visit, v: Result<Euro, u32>) -> Tried
     requires { (at.node.unit < 16) × (at.state.tries < MOST_TRIES) }
     ensures { Deeper at v result }
 {
@@ -123,8 +122,8 @@ fn deeper(at: Visit, v: Trial) -> Tried
     let state = state::tried(st);
     let first = at.first;
     match v {
-        Trial::Fails(b) => Tried {
-            trial: Trial::Fails(b),
+        Err(b) => Tried {
+            trial: Err(b),
             at: Visit {
                 node,
                 state,
@@ -132,8 +131,8 @@ fn deeper(at: Visit, v: Trial) -> Tried
                 first,
             },
         },
-        Trial::Holds(bound) => Tried {
-            trial: Trial::Holds(bound),
+        Ok(bound) => Tried {
+            trial: Ok(bound),
             at: Visit {
                 node: dual::next_node(node, bound),
                 state,
@@ -269,8 +268,8 @@ fn try_start(
     let below = tried.at;
     let v = tried.trial;
     match v {
-        Trial::Fails(b) => state::dead_end(below.state, b),
-        Trial::Holds(_) => {
+        Err(b) => state::dead_end(below.state, b),
+        Ok(_) => {
             let out = bound::placed_rows(words, l, rows, starts, node.unit);
             place(words, l, tables, &out, &next, below, table, memo)
         }
@@ -364,8 +363,8 @@ pub fn from_root(
     let limit = st.limit;
     let v = bound::root(words, l, tables, limit);
     match v {
-        Trial::Fails(_) => state::dead_end(st, 0),
-        Trial::Holds(bound) => {
+        Err(_) => state::dead_end(st, 0),
+        Ok(bound) => {
             let rows = bound::no_rows();
             let values = bound::first_values(tables);
             let at = root_visit(bound, st, false);

@@ -9,7 +9,6 @@ ghost use Rattle.search.specs.Walks.{SearchDue, SearchDone, GoingDue, PlanDue, C
 
 use crate::gaps;
 use crate::gaps::Probes;
-use bound::Trial;
 use dual::Node;
 use farkas::Findings;
 use instance::Euro;
@@ -51,8 +50,8 @@ fn walk(
     let limit = st.limit;
     let v = bound::root(words, l, tables, limit);
     match v {
-        Trial::Fails(_) => state::dead_end(st, 0),
-        Trial::Holds(bound) => {
+        Err(_) => state::dead_end(st, 0),
+        Ok(bound) => {
             let rows = bound::no_rows();
             let values = bound::first_values(tables);
             let at = root_visit(bound, st);

@@ -25,8 +25,7 @@ use Rattle.tables.specs.Tables.{price_in}
 use Rattle.relaxation.specs.Relaxed.{MemoTrue}
 use Rattle.dual.specs.declared.Node.{Node}
 use Rattle.dual.specs.Blame.{IsNext}
-use Rattle.bound.specs.declared.Trial.{Trial}
-use Rattle.bound.specs.declared.Trial.TheVariants.{Holds, Fails}
+use Rattle.std.proofs.Common.{Result, Ok, Err}
 use Rattle.bound.specs.Rows.{RowsDue, RowsWith}
 use Rattle.bound.specs.Tests.{Judged}
 use Rattle.state.specs.declared.State.{State}
@@ -304,21 +303,21 @@ module _ (ws : List ℕ) (l : Layout) (us rows ys : List ℕ) (at : Visit) (w me
       subst (TryDone (problem_of ws) w w at) (sym is) (done_stopped (problem_of ws) w us rows ys at.node at.state d.untried k e h)
 
 -- where the walk goes on after a verdict
-pub deeper_fails : (at : Visit) (v : Trial) (b : ℕ) (s : State) (r : Tried) → s ≡ tried_once at.state → v ≡ Fails b → r.trial ≡ Fails b
+pub deeper_fails : (at : Visit) (v : Result Euro ℕ) (b : ℕ) (s : State) (r : Tried) → s ≡ tried_once at.state → v ≡ Err b → r.trial ≡ Err b
     → r.at.node ≡ at.node → r.at.state ≡ s → Deeper at v r
 deeper_fails at v b s r es e et en est =
-    record { trial_is = et ∙ sym e; node_is = subst (λ (x : Trial). GoesTo at.node x r.at.node) (sym e) en; state_is = est ∙ es }
+    record { trial_is = et ∙ sym e; node_is = subst (λ (x : Result Euro ℕ). GoesTo at.node x r.at.node) (sym e) en; state_is = est ∙ es }
 
-pub deeper_holds : (at : Visit) (v : Trial) (c : Euro) (s : State) (node : Node) (r : Tried) → s ≡ tried_once at.state → IsNext at.node c node
-    → v ≡ Holds c → r.trial ≡ Holds c → r.at.node ≡ node → r.at.state ≡ s → Deeper at v r
+pub deeper_holds : (at : Visit) (v : Result Euro ℕ) (c : Euro) (s : State) (node : Node) (r : Tried) → s ≡ tried_once at.state → IsNext at.node c node
+    → v ≡ Ok c → r.trial ≡ Ok c → r.at.node ≡ node → r.at.state ≡ s → Deeper at v r
 deeper_holds at v c s node r es next e et en est = record {
   trial_is = et ∙ sym e;
-  node_is = subst (λ (x : Trial). GoesTo at.node x r.at.node) (sym e) (subst (IsNext at.node c) (sym en) next);
+  node_is = subst (λ (x : Result Euro ℕ). GoesTo at.node x r.at.node) (sym e) (subst (IsNext at.node c) (sym en) next);
   state_is = est ∙ es;
 }
 
 -- the start is judged within the budget
-module _ (ws : List ℕ) (l : Layout) (us rows ys : List ℕ) (at : Visit) (w memo zs memo₁ : List ℕ) (v : Trial)
+module _ (ws : List ℕ) (l : Layout) (us rows ys : List ℕ) (at : Visit) (w memo zs memo₁ : List ℕ) (v : Result Euro ℕ)
     (j : TryJudged ws l us rows ys at w memo zs memo₁ v) where
   -- its unit is one of sixteen
   pub judged_few : at.node.unit < 16
@@ -329,7 +328,7 @@ module _ (ws : List ℕ) (l : Layout) (us rows ys : List ℕ) (at : Visit) (w me
   unfolding TryJudged TryTaken
   judged_taken r d = record {
     judging = subst (Judging ws l us rows ys at w memo zs memo₁) (sym d.trial_is) j;
-    node_is = subst (λ (x : Trial). GoesTo at.node x r.at.node) (sym d.trial_is) d.node_is;
+    node_is = subst (λ (x : Result Euro ℕ). GoesTo at.node x r.at.node) (sym d.trial_is) d.node_is;
     state_is = d.state_is;
   }
 
@@ -355,7 +354,7 @@ module _ (ws : List ℕ) (l : Layout) (us rows ys : List ℕ) (at : Visit) (w me
       record { unit = u.unit; permits = u.permits; long = u.tallied.long; tallies = u.tallied.tallies }
 
   -- it fails
-  pub taken_fails : (b : ℕ) (s : State) (step : Step) → r.trial ≡ Fails b → s ≡ r.at.state → step ≡ dead_at s b → TryDone (problem_of ws) w w at step
+  pub taken_fails : (b : ℕ) (s : State) (step : Step) → r.trial ≡ Err b → s ≡ r.at.state → step ≡ dead_at s b → TryDone (problem_of ws) w w at step
   unfolding TryTaken TryDone
   taken_fails b s step t es is =
       let g : s ≡ tried_once at.state = es ∙ j.state_is in
@@ -363,10 +362,10 @@ module _ (ws : List ℕ) (l : Layout) (us rows ys : List ℕ) (at : Visit) (w me
       (done_fails (problem_of ws) w us rows ys at.node at.state j.judging.due.untried b
       (subst (Judged (problem_of ws) us at.node at.state.limit.0 zs) t j.judging.said))
 
-  module _ (c : Euro) (e : r.trial ≡ Holds c) where
+  module _ (c : Euro) (e : r.trial ≡ Ok c) where
     next : IsNext at.node c r.at.node
     unfolding TryTaken
-    next = subst (λ (x : Trial). GoesTo at.node x r.at.node) e j.node_is
+    next = subst (λ (x : Result Euro ℕ). GoesTo at.node x r.at.node) e j.node_is
 
     counted : r.at.state ≡ tried_once at.state
     unfolding TryTaken

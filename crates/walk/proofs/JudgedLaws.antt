@@ -30,8 +30,7 @@ use Rattle.relaxation.proofs.ValueLaws.{recalls_others}
 use Rattle.dual.specs.declared.Node.{Node}
 use Rattle.dual.specs.Blame.{placed_after, Blamed}
 use Rattle.bound.specs.Rows.{RowsOfAll}
-use Rattle.bound.specs.declared.Trial.{Trial}
-use Rattle.bound.specs.declared.Trial.TheVariants.{Fails}
+use Rattle.std.proofs.Common.{Result, Err}
 use Rattle.bound.specs.Tests.{Blames, Judged, TestDue}
 use Rattle.bound.proofs.RunLaws.{rows_all}
 use Rattle.state.specs.declared.State.{State}
@@ -87,13 +86,13 @@ module _ (ws : List ℕ) (l : Layout) (us rows ys : List ℕ) (at : Visit) (w me
       }
 
   -- it is judged
-  pub judged_so : (zs memo₁ : List ℕ) (v : Trial) → Judged (problem_of ws) us at.node at.state.limit.0 zs v
+  pub judged_so : (zs memo₁ : List ℕ) (v : Result Euro ℕ) → Judged (problem_of ws) us at.node at.state.limit.0 zs v
       → MemoTrue (problem_of ws) (price_in us) memo₁ → TryJudged ws l us rows ys at w memo zs memo₁ v
   unfolding TryDue TryJudged
   judged_so zs memo₁ v said recalls = record { due = d; said = said; recalls = recalls }
 
   pub judged_met : (h : Option ℕ) (b : ℕ) → h ≡ Some b → Recalled w at.node.starts (placed_after at.node) at.state.limit.0 h
-      → TryJudged ws l us rows ys at w memo ys memo (Fails b)
+      → TryJudged ws l us rows ys at w memo ys memo (Err b)
   unfolding TryDue TryJudged
   judged_met h b e r = record { due = d; said = judged_recalled h b e r; recalls = d.walking.recalls }
 

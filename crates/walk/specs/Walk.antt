@@ -23,8 +23,7 @@ use Rattle.relaxation.specs.Relaxed.{MemoTrue}
 use Rattle.dual.specs.declared.Node.{Node}
 use Rattle.dual.specs.Dual.{Dual}
 use Rattle.dual.specs.Blame.{IsNext, Bounded}
-use Rattle.bound.specs.declared.Trial.{Trial}
-use Rattle.bound.specs.declared.Trial.TheVariants.{Holds, Fails}
+use Rattle.std.specs.Prelude.{Result, Ok, Err}
 use Rattle.bound.specs.Tests.{Blames, Stands, Judged}
 use Rattle.state.specs.declared.State.{State}
 use Rattle.state.specs.declared.Walked.{Walked}
@@ -155,21 +154,21 @@ unfoldable pub TryDue : (ws : List ℕ) → Layout → (us rows ys : List ℕ) �
 TryDue ws l us rows ys at w memo = TryNeeds ws l us rows ys at w memo
 
 -- a start that was to be tried was judged; what it asked holds still
-pub record Judging (ws : List ℕ) (l : Layout) (us rows ys : List ℕ) (at : Visit) (w memo zs memo₁ : List ℕ) (v : Trial) : Type 0 where
+pub record Judging (ws : List ℕ) (l : Layout) (us rows ys : List ℕ) (at : Visit) (w memo zs memo₁ : List ℕ) (v : Result Euro ℕ) : Type 0 where
   pub due : TryNeeds ws l us rows ys at w memo
   pub said : Judged (problem_of ws) us at.node at.state.limit.0 zs v
   pub recalls : MemoTrue (problem_of ws) (price_in us) memo₁
 
-unfoldable pub TryJudged : (ws : List ℕ) → Layout → (us rows ys : List ℕ) → Visit → (w memo zs memo₁ : List ℕ) → Trial → Type 0
+unfoldable pub TryJudged : (ws : List ℕ) → Layout → (us rows ys : List ℕ) → Visit → (w memo zs memo₁ : List ℕ) → Result Euro ℕ → Type 0
 TryJudged ws l us rows ys at w memo zs memo₁ v = Judging ws l us rows ys at w memo zs memo₁ v
 
 -- where the walk goes on: where the start holds its unit is placed
-abbrev pub GoesTo : Node → Trial → Node → Type 0
-GoesTo node (Holds r) next = IsNext node r next
-GoesTo node (Fails b) next = next ≡ node
+abbrev pub GoesTo : Node → Result Euro ℕ → Node → Type 0
+GoesTo node (Ok r) next = IsNext node r next
+GoesTo node (Err b) next = next ≡ node
 
 -- and the try is counted
-pub record Deeper (at : Visit) (v : Trial) (r : Tried) : Type 0 where
+pub record Deeper (at : Visit) (v : Result Euro ℕ) (r : Tried) : Type 0 where
   pub trial_is : r.trial ≡ v
   pub node_is : GoesTo at.node v r.at.node
   pub state_is : r.at.state ≡ tried_once at.state

@@ -9,7 +9,6 @@ ghost use Rattle.relaxation.specs.Relaxed.{MemoTrue};
 ghost use Rattle.state.specs.State.{MOST_TRIES};
 ghost use Rattle.walk.specs.Walk.{IsStart, PlaceDue, TryDue, TryJudged, Deeper, TryTaken, PlaceDone, TryDone, Shares, TurnOf, LeafDue, BetterDue, Better, Leaf};
 
-use bound::Trial;
 use dual::Node;
 use instance::Euro;
 use model::Layout;
@@ -28,7 +27,7 @@ pub struct Visit {
 // A start that was judged, and where the walk goes on: the try is counted, and where the start holds one unit more is placed at the bound with it.
 #[derive(Clone, Copy)]
 struct Tried {
-    trial: Trial,
+    trial: Result<Euro, u32>,
     at: Visit,
 }
 
@@ -42,7 +41,7 @@ fn test_start(
     table: &[u32],
     values: &mut [u32],
     memo: &mut [u32],
-) -> Trial
+) -> Result<Euro, u32>
     requires { TryDue words.now l tables.now rows.now values.old at table.now memo.old }
     ensures { TryJudged words.now l tables.now rows.now values.old at table.now memo.old
         values.new memo.new result }
@@ -52,13 +51,13 @@ fn test_start(
     let starts = node.starts;
     let limit = st.limit;
     if let Some(b) = state::recalled(table, st, starts, node.placed, node.unit) {
-        return Trial::Fails(b);
+        return Err(b);
     }
     bound::test(words, l, tables, rows, node, limit, values, memo)
 }
 
 // Where the walk goes on after a verdict.
-fn deeper(at: Visit, v: Trial) -> Tried
+fn deeper(at: Visit, v: Result<Euro, u32>) -> Tried
     requires { (at.node.unit < 16) × (at.state.tries < MOST_TRIES) }
     ensures { Deeper at v result }
 {
@@ -66,12 +65,12 @@ fn deeper(at: Visit, v: Trial) -> Tried
     let st = at.state;
     let state = state::tried(st);
     match v {
-        Trial::Fails(b) => Tried {
-            trial: Trial::Fails(b),
+        Err(b) => Tried {
+            trial: Err(b),
             at: Visit { node, state },
         },
-        Trial::Holds(bound) => Tried {
-            trial: Trial::Holds(bound),
+        Ok(bound) => Tried {
+            trial: Ok(bound),
             at: Visit {
                 node: dual::next_node(node, bound),
                 state,
@@ -174,8 +173,8 @@ fn try_start(
     let below = tried.at;
     let v = tried.trial;
     match v {
-        Trial::Fails(b) => state::dead_end(below.state, b),
-        Trial::Holds(_) => {
+        Err(b) => state::dead_end(below.state, b),
+        Ok(_) => {
             let out = bound::placed_rows(words, l, rows, starts, node.unit);
             place(words, l, tables, &out, &next, below, table, memo)
         }

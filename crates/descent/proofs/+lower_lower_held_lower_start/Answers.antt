@@ -77,23 +77,23 @@ lower_start-placed_rows-out-requires t c = (search taken_filed, search taken_row
 -- by name: a search looks at all records for what it is not given, and takes too many steps
 pub lower_start-lower_held-requires : goal.lower_start-lower_held-requires
 lower_start-lower_held-requires t c =
-    let holds = c.in-Holds.is in (
+    let holds = c.in-Ok.is in (
       try_falls _ _ _ _ _ _ _ _ c.requires _ _ _ c.judge_start-tried.ensures _ holds _ (omega arith),
       try_held _ _ _ _ _ _ _ _ c.requires _ _ _ c.judge_start-tried.ensures _ holds _ c.placed_rows-out.ensures,
     )
 
 -- by name: a search looks at all records for what it is not given, and takes too many steps
-pub lower_start-returns-in-Fails : goal.lower_start-returns-in-Fails
-lower_start-returns-in-Fails t c =
+pub lower_start-returns-in-Err : goal.lower_start-returns-in-Err
+lower_start-returns-in-Err t c =
     record {
-      answer = try_fails _ _ _ _ _ _ _ _ c.requires _ _ _ c.judge_start-tried.ensures _ _ _ c.in-Fails.is refl c.next_start.ensures.0 c.next_start.ensures.1;
+      answer = try_fails _ _ _ _ _ _ _ _ c.requires _ _ _ c.judge_start-tried.ensures _ _ _ c.in-Err.is refl c.next_start.ensures.0 c.next_start.ensures.1;
       recalls = search taken_recalls;
     }
 
 -- by name: a search looks at all records for what it is not given, and takes too many steps
-pub lower_start-returns-in-Holds : goal.lower_start-returns-in-Holds
-lower_start-returns-in-Holds t c =
+pub lower_start-returns-in-Ok : goal.lower_start-returns-in-Ok
+lower_start-returns-in-Ok t c =
     record {
-      answer = try_held_done _ _ _ _ _ _ _ _ c.requires _ _ _ c.judge_start-tried.ensures _ c.in-Holds.is _ _ c.lower_held.ensures.answer;
+      answer = try_held_done _ _ _ _ _ _ _ _ c.requires _ _ _ c.judge_start-tried.ensures _ c.in-Ok.is _ _ c.lower_held.ensures.answer;
       recalls = c.lower_held.ensures.recalls;
     }

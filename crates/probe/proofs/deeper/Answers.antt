@@ -3,8 +3,8 @@
 use Rattle.probe.proofs.JudgedLaws.{deeper_fails, deeper_holds}
 use Rattle.probe.proofs.deeper.Goals as goal
 
-pub returns-in-Fails : goal.returns-in-Fails
-returns-in-Fails c = search deeper_fails
+pub returns-in-Err : goal.returns-in-Err
+returns-in-Err c = search deeper_fails
 
-pub returns-in-Holds : goal.returns-in-Holds
-returns-in-Holds c = search deeper_holds
+pub returns-in-Ok : goal.returns-in-Ok
+returns-in-Ok c = search deeper_holds

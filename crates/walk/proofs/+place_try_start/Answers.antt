@@ -60,11 +60,11 @@ try_start-placed_rows-out-requires t c = (search taken_filed, search taken_rows)
 pub try_start-place-requires : goal.try_start-place-requires
 try_start-place-requires t c =
     let taken = c.judge_start-tried.ensures in
-    let holds = c.in-Holds.is in
+    let holds = c.in-Ok.is in
     (taken_falls _ _ _ _ _ _ _ _ _ _ _ taken _ holds _ (omega arith), taken_places _ _ _ _ _ _ _ _ _ _ _ taken _ holds _ (search rules))
 
-pub try_start-returns-in-Fails : goal.try_start-returns-in-Fails
-try_start-returns-in-Fails t c = record { answer = search taken_fails; recalls = search taken_recalls }
+pub try_start-returns-in-Err : goal.try_start-returns-in-Err
+try_start-returns-in-Err t c = record { answer = search taken_fails; recalls = search taken_recalls }
 
-pub try_start-returns-in-Holds : goal.try_start-returns-in-Holds
-try_start-returns-in-Holds t c = record { answer = search taken_placed; recalls = search rules }
+pub try_start-returns-in-Ok : goal.try_start-returns-in-Ok
+try_start-returns-in-Ok t c = record { answer = search taken_placed; recalls = search rules }
