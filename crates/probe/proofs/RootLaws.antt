@@ -21,9 +21,9 @@ use Rattle.state.specs.declared.Step.{Step}
 use Rattle.state.specs.declared.Walked.{Walked}
 use Rattle.state.specs.declared.Walked.TheVariants.{Dead, Spent}
 use Rattle.state.specs.State.{dead_at}
-use Rattle.walk.specs.Walk.{AllSettled, Unspent}
+use Rattle.walk.specs.Walk.{AllSettled, AtRoot, Unspent}
 use Rattle.probe.specs.declared.Visit.{Visit}
-use Rattle.probe.specs.Probe.{Says, Probed, PlaceDue, PlaceDone, AtRoot, ProbeDue, RootDone}
+use Rattle.probe.specs.Probe.{Says, Probed, PlaceDue, PlaceDone, ProbeDue, RootDone}
 use Rattle.probe.proofs.PlanLaws.{goes_same}
 
 -- where nobody is to blame, nothing is below the limit
@@ -48,7 +48,7 @@ module _ (ws : List ℕ) (l : Layout) (us w memo : List ℕ) (st : State) (d : P
         })
 
     -- no unit is placed
-    pub root_places : (c : Euro) (rows ys : List ℕ) (at : Visit) → v ≡ Ok c → rows ≡ replicate 52 0 → RootValues us ys → AtRoot c.0 st at
+    pub root_places : (c : Euro) (rows ys : List ℕ) (at : Visit) → v ≡ Ok c → rows ≡ replicate 52 0 → RootValues us ys → AtRoot c.0 st at.visit
         → PlaceDue ws l us rows ys at w memo
     unfolding PlaceDue
     root_places c rows ys at e none fronts root =
@@ -58,21 +58,21 @@ module _ (ws : List ℕ) (l : Layout) (us w memo : List ℕ) (st : State) (d : P
           opened = record {
             within = λ i h. true_false (sym h ∙ (ap (λ (n : ℕ). has n i) root.nobody ∙ zero_has i));
             long = root.long;
-            stands = rw (root.nobody, root.bound_is) (stands.each (entry at.node.starts));
-            tallied = rw root.nobody (rows_none (problem_of ws) (entry at.node.starts) rows none);
+            stands = rw (root.nobody, root.bound_is) (stands.each (entry at.visit.node.starts));
+            tallied = rw root.nobody (rows_none (problem_of ws) (entry at.visit.node.starts) rows none);
             small = rw root.same d.small;
             held = rw root.same d.held;
           };
         }
 
 -- units were placed in any order
-pub root_placed : (p : Problem) (w w' : List ℕ) (c : ℕ) (st : State) (at : Visit) (step : Step) → AtRoot c st at → PlaceDone p w w' at.node at.state step
+pub root_placed : (p : Problem) (w w' : List ℕ) (c : ℕ) (st : State) (at : Visit) (step : Step) → AtRoot c st at.visit → PlaceDone p w w' at.visit.node at.visit.state step
     → RootDone p w w' st step
 unfolding PlaceDone
 root_placed p w w' c st at step root done =
-    let x : Probed p (has 0) (entry at.node.starts) w w' st step
-    = subst (λ (s : State). Probed p (has 0) (entry at.node.starts) w w' s step) root.same
-    (subst (λ (n : ℕ). Probed p (has n) (entry at.node.starts) w w' at.state step) root.nobody done) in
+    let x : Probed p (has 0) (entry at.visit.node.starts) w w' st step
+    = subst (λ (s : State). Probed p (has 0) (entry at.visit.node.starts) w w' s step) root.same
+    (subst (λ (n : ℕ). Probed p (has n) (entry at.visit.node.starts) w w' at.visit.state step) root.nobody done) in
     record {
       falls = x.improves.falls;
       settled = λ u. go step.walked u x.says;
@@ -80,6 +80,6 @@ root_placed p w w' c st at step root done =
       goes = x.goes;
     }
   where
-    go : (k : Walked) → Unspent k → Says p (has 0) (entry at.node.starts) step.state.limit.0 k → AllSettled p step.state.limit.0
-    go (Dead b) u h = blame_nobody p (entry at.node.starts) step.state.limit.0 b h
+    go : (k : Walked) → Unspent k → Says p (has 0) (entry at.visit.node.starts) step.state.limit.0 k → AllSettled p step.state.limit.0
+    go (Dead b) u h = blame_nobody p (entry at.visit.node.starts) step.state.limit.0 b h
     go (Spent m) u h = absurd u

@@ -9,6 +9,7 @@ ghost use Rattle.search.specs.Walks.{SearchDue, SearchDone, GoingDue, PlanDue, C
 
 use crate::gaps;
 use crate::gaps::Probes;
+use descent::Ending;
 use dual::Node;
 use farkas::Findings;
 use instance::Euro;
@@ -113,7 +114,7 @@ fn solve_by_descent(
     let cost = s.limit;
     let r = descent::descend(words, l, tables, s, table, memo);
     let q = r.state;
-    if r.whole {
+    if let Ending::Earliest = r.ending {
         return tell_plan(q, cost);
     }
     last_walk(words, l, tables, st, q, table, memo)
