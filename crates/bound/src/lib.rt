@@ -66,16 +66,14 @@ pub fn no_rows() -> [u64; 52]
 pub fn row_units(word: u64) -> u32
     ensures { result ≡ word % SETS }
 {
-    let y = tallies::tally(word);
-    y.out
+    tallies::tally(word).out
 }
 
 // How many they are.
 pub fn row_count(word: u64) -> usize
     ensures { result ≡ word / SETS % COUNTS }
 {
-    let y = tallies::tally(word);
-    y.count
+    tallies::tally(word).count
 }
 
 // ---- a start
@@ -85,11 +83,11 @@ fn with_start(tables: &[u32; TABLES], node: Node) -> Node
     requires { StartBounded node }
     ensures { result ≡ with_start tables.now node }
 {
-    let starts = node.starts;
-    let j = node.unit;
-    let bound = node.bound;
-    let start = starts[j] as usize;
-    dual::with_bound(node, bound.plus(tables::excess(tables, j, start)))
+    let start = node.starts[node.unit] as usize;
+    dual::with_bound(
+        node,
+        node.bound.plus(tables::excess(tables, node.unit, start)),
+    )
 }
 
 // The bound with the weeks, weighed against the limit: one that comes to it blames those whose starts keep it there.
@@ -207,8 +205,7 @@ fn tally_cost(words: &[u32], l: Layout, t: usize, word: u64, memo: &mut [u32]) -
     ensures right { Right (problem_of words.now) memo.new × Others memo.old memo.new }
 {
     let y = tallies::tally(word);
-    let out = y.out;
-    let run = memo::least_cost(words, l, t, out, memo);
+    let run = memo::least_cost(words, l, t, y.out, memo);
     y.cost.plus(run)
 }
 
@@ -248,6 +245,7 @@ fn all_rows(words: &[u32], l: Layout, starts: [u8; 16]) -> [u64; 52]
     let units = l.units;
     let mut rows = no_rows();
     for j in 0..units {
+        // By way of a variable: the check covers no call whose result is laid in an array that it is lent.
         let next = placed_rows(words, l, &rows, starts, j);
         rows = next;
     }

@@ -56,13 +56,12 @@ fn test_out(
     ensures answer { OutTested (problem_of words.now) (price_in tables.now) t y.out result }
     ensures recalls { MemoTrue (problem_of words.now) (price_in tables.now) memo.new }
 {
-    let out = y.out;
     if instance::crews(words, l) < y.count {
-        return Err(out);
+        return Err(y.out);
     }
-    let value = relaxation::week_value(words, l, tables, t, out, memo);
+    let value = relaxation::week_value(words, l, tables, t, y.out, memo);
     if NO_RUN <= value.0 {
-        return Err(out);
+        return Err(y.out);
     }
     Ok(value)
 }

@@ -49,14 +49,12 @@ fn last_placed(order: u64, b: u32) -> usize
     ensures { result < 16 }
 {
     let mut rest = order;
-    let mut left: usize = 16;
-    while 0 < left {
+    for _ in 0..16 {
         let unit = (rest % UNITS) as usize;
         if sets::has(b, unit) {
             return unit;
         }
         rest /= UNITS;
-        left -= 1;
     }
     0
 }

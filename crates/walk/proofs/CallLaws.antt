@@ -2,13 +2,11 @@
 -- Assumes nothing.
 use Prim.Native.Nat.{ℕ, suc, ◌+◌, ◌*◌, ◌-◌, ◌≤◌, ◌<◌}
 use mathlib.Core.Path.{◌≡◌, refl, sym, ◌∙◌, ap, subst, subst₂}
-use mathlib.Core.Bool.{Bool, false}
 use mathlib.Core.List.{List}
 use native.Mathlib.Nat.{le_trans}
 use native.Mathlib.Omega.{arith}
 use lib.ListN.{length, set}
 use borrow.Author.Tests.{ltb-true, lt-ltb}
-use Rattle.sums.specs.NumSet.{has}
 use Rattle.sums.specs.Table.{entry}
 use Rattle.model.specs.declared.Layout.{Layout}
 use Rattle.model.specs.Problem.{Problem}
@@ -31,7 +29,7 @@ use Rattle.state.specs.declared.Walked.{Walked}
 use Rattle.state.specs.declared.Walked.TheVariants.{Dead, Spent}
 use Rattle.state.specs.State.{tried_once, stopped_at, dead_at, DeadEndNoted}
 use Rattle.walk.specs.declared.Visit.{Visit}
-use Rattle.walk.specs.Walk.{IsStart, Open, Walking, PlaceDue, TryNeeds, TryDue, Judging, Taken, TryTaken, PlaceDone, TryDone, LeavesUnit, GoesOn, Shares, TurnOf, Done, try_room, place_room, LeafDue, Leaf}
+use Rattle.walk.specs.Walk.{IsStart, Open, Walking, PlaceDue, TryNeeds, TryDue, Judging, Taken, TryTaken, PlaceDone, TryDone, LeavesUnit, GoesOn, TurnOf, Done, try_room, place_room, LeafDue, Leaf}
 use Rattle.walk.proofs.StateLaws.{held_later}
 use Rattle.walk.proofs.PlaceLaws.{places_to_try, places_to_place}
 use Rattle.walk.proofs.NotedLaws.{later_noted}
@@ -247,17 +245,6 @@ starts_next ws l us rows ys node st w first end w₁ s blame v memo₁ next w₂
 pub place_long : (p : Problem) (w₀ w w' : List ℕ) (at : Visit) (step : Step) → TryDone p w w' at step → length w ≡ length w₀ → length w' ≡ length w₀
 unfolding TryDone
 place_long p w₀ w w' at step d e = d.later.carried.long ∙ e
-
--- what follows on a start, by how the walk came back from it
-module _ (step : Step) (blame j : ℕ) where
-  pub turn_spent : (m : ℕ) → step.walked ≡ Spent m → TurnOf step blame j None
-  turn_spent m e = subst (LeavesUnit j) (sym e) tt
-
-  pub turn_shared : (b both : ℕ) → step.walked ≡ Dead b → Shares blame b j both → TurnOf step blame j (Some both)
-  turn_shared b both e union = subst (GoesOn blame j both) (sym e) union
-
-  pub turn_free : (b : ℕ) (shares : Bool) → step.walked ≡ Dead b → shares ≡ has b j → shares ≡ false → TurnOf step blame j None
-  turn_free b shares e q free = subst (LeavesUnit j) (sym e) (sym q ∙ free)
 
 -- ---- a start is tried
 
