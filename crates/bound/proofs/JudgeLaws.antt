@@ -5,6 +5,7 @@ use mathlib.Core.Path.{◌≡◌, sym, ◌∙◌, ap, subst, fun_ext}
 use mathlib.Core.List.{List}
 use native.Mathlib.Omega.{arith}
 use lib.ListN.{get_or}
+use Rattle.std.proofs.Common.{Ok, Err}
 use Rattle.sums.specs.NumSet.{NumSet, has}
 use Rattle.sums.specs.Table.{entry}
 use Rattle.model.specs.declared.Layout.{Layout}
@@ -19,8 +20,6 @@ use Rattle.dual.specs.declared.Node.{Node}
 use Rattle.dual.specs.Dual.{Bounds}
 use Rattle.dual.specs.Blame.{placed_after, next_node, IsNext, with_bound, Bounded, Blamed}
 use Rattle.dual.proofs.BoundsLaws.{bounds_placed}
-use Rattle.bound.specs.declared.Trial.{Trial}
-use Rattle.bound.specs.declared.Trial.TheVariants.{Holds, Fails}
 use Rattle.bound.specs.Tests.{Blames, Tested, Stands, StartBounded, with_start, StartDue, Weighing, TestDue}
 use Rattle.bound.proofs.TestLaws.{bounds_small, with_permits}
 
@@ -64,46 +63,45 @@ module _ (ws : List ℕ) (l : Layout) (us rows : List ℕ) (node : Node) (limit 
     recalls = d.recalls;
   })
 
-  -- their verdict is weighed
-  pub weighing : (next : Node) (v : Trial) (wanted : ℕ) (ys : List ℕ) → next ≡ with_start us node → wanted ≡ limit + total_in us
-      → Tested (problem_of ws) us (has next.placed) (entry next.starts) next.unit wanted ys v → Weighing ws l us node v limit ys
-  weighing next v wanted ys e ew h = record {
+  -- a start that fails in a week
+  pub week_blames : (next : Node) (wanted b : ℕ) (ys : List ℕ) → next ≡ with_start us node
+      → Tested (problem_of ws) us (has next.placed) (entry next.starts) next.unit wanted ys (Err b)
+      → Blames (problem_of ws) (placed_after node) (entry node.starts) limit b
+  week_blames next wanted b ys e h =
+      (subst (λ (n : Node). Tested p us (has n.placed) (entry n.starts) n.unit wanted ys (Err b)) e h).blames limit
+
+  -- the bound of one that holds is weighed
+  pub weighing : (next : Node) (total : Euro) (wanted : ℕ) (ys : List ℕ) → next ≡ with_start us node → wanted ≡ limit + total_in us
+      → Tested (problem_of ws) us (has next.placed) (entry next.starts) next.unit wanted ys (Ok total) → Weighing ws l us node total limit ys
+  weighing next total wanted ys e ew h = record {
     filed = f;
     dual = d.dual;
     unit = omega (arith, d.due.unit, f.units_are);
     permits = record {
       each = with_permits p (has node.placed) (entry node.starts) node.unit d.stands.standing.permits d.due.permits;
     };
-    tested = subst (λ (w : ℕ). Tested p us (has node.placed) (entry node.starts) node.unit w ys v) ew
-        (subst (λ (n : Node). Tested p us (has n.placed) (entry n.starts) n.unit wanted ys v) e h);
+    tested = subst (λ (w : ℕ). Tested p us (has node.placed) (entry node.starts) node.unit w ys (Ok total)) ew
+        (subst (λ (n : Node). Tested p us (has n.placed) (entry n.starts) n.unit wanted ys (Ok total)) e h);
     small = d.small;
   }
 
-module _ (ws : List ℕ) (l : Layout) (us : List ℕ) (node : Node) (v : Trial) (limit : ℕ) (xs : List ℕ) (w : Weighing ws l us node v limit xs) where
-  -- some units' starts are a dead end
-  pub weighed_blames : (b : ℕ) → v ≡ Fails b → Blames (problem_of ws) (placed_after node) (entry node.starts) limit b
-  weighed_blames b e = (subst (Tested (problem_of ws) us (has node.placed) (entry node.starts) node.unit (limit + total_in us) xs) e w.tested).blames limit
+module _ (ws : List ℕ) (l : Layout) (us : List ℕ) (node : Node) (r : Euro) (limit : ℕ) (xs : List ℕ) (w : Weighing ws l us node r limit xs) where
+  -- the bound lies below what is wanted: one unit more stands
+  pub weighed_stands : (wanted : ℕ) → wanted ≡ limit + total_in us → r.0 < wanted
+      → Stands (problem_of ws) us (placed_after node) (entry node.starts) xs r.0
+  weighed_stands wanted ew less = record { standing = w.tested.1 (omega arith); bounds = w.tested.0 }
 
-  module _ (r : Euro) (e : v ≡ Holds r) where
-    held : Tested (problem_of ws) us (has node.placed) (entry node.starts) node.unit (limit + total_in us) xs (Holds r)
-    held = subst (Tested (problem_of ws) us (has node.placed) (entry node.starts) node.unit (limit + total_in us) xs) e w.tested
+  -- else the blame is made smaller
+  pub weighed_bounded : (next : Node) → IsNext node r next → Bounded ws l us next xs
+  weighed_bounded next n = subst (λ (x : Node). Bounded ws l us x xs) (sym n.is) (record {
+    filed = w.filed;
+    dual = w.dual;
+    permits = record { each = λ i q. w.permits.each i (sym (n.joins i) ∙ q) };
+    bounds = subst (λ (a : NumSet). Bounds (problem_of ws) us a (entry node.starts) xs r.0) (sym (fun_ext n.joins)) w.tested.0;
+  })
 
-    -- the bound lies below what is wanted: one unit more stands
-    pub weighed_stands : (wanted : ℕ) → wanted ≡ limit + total_in us → r.0 < wanted
-        → Stands (problem_of ws) us (placed_after node) (entry node.starts) xs r.0
-    weighed_stands wanted ew less = record { standing = held.1 (omega arith); bounds = held.0 }
-
-    -- else the blame is made smaller
-    pub weighed_bounded : (next : Node) → IsNext node r next → Bounded ws l us next xs
-    weighed_bounded next n = subst (λ (x : Node). Bounded ws l us x xs) (sym n.is) (record {
-      filed = w.filed;
-      dual = w.dual;
-      permits = record { each = λ i q. w.permits.each i (sym (n.joins i) ∙ q) };
-      bounds = subst (λ (a : NumSet). Bounds (problem_of ws) us a (entry node.starts) xs r.0) (sym (fun_ext n.joins)) held.0;
-    })
-
-    pub weighed_closed : (next : Node) (wanted b : ℕ) → IsNext node r next → wanted ≡ limit + total_in us → wanted ≤ r.0
-        → Blamed (problem_of ws) us next limit b → Blames (problem_of ws) (placed_after node) (entry node.starts) limit b
-    weighed_closed next wanted b n ew le h =
-        let g : Blamed (problem_of ws) us (next_node node next.placed r) limit b = subst (λ (x : Node). Blamed (problem_of ws) us x limit b) n.is h in
-        record { closed = g.closed (omega arith); within = λ i q. sym (n.joins i) ∙ g.within i q }
+  pub weighed_closed : (next : Node) (wanted b : ℕ) → IsNext node r next → wanted ≡ limit + total_in us → wanted ≤ r.0
+      → Blamed (problem_of ws) us next limit b → Blames (problem_of ws) (placed_after node) (entry node.starts) limit b
+  weighed_closed next wanted b n ew le h =
+      let g : Blamed (problem_of ws) us (next_node node next.placed r) limit b = subst (λ (x : Node). Blamed (problem_of ws) us x limit b) n.is h in
+      record { closed = g.closed (omega arith); within = λ i q. sym (n.joins i) ∙ g.within i q }

@@ -10,6 +10,7 @@ use native.Mathlib.Nat.{mul-le-mul_right}
 use native.Mathlib.Omega.{arith}
 use lib.Dec.{eqb}
 use lib.ListN.{length, get_or, set}
+use Rattle.std.proofs.Common.{Ok, Err}
 use Rattle.sums.specs.Logic.{if}
 use Rattle.sums.specs.Sum.{added, transposed}
 use Rattle.sums.specs.NumSet.{NumSet, parts, has, with}
@@ -39,8 +40,6 @@ use Rattle.dual.specs.declared.Node.{Node}
 use Rattle.dual.specs.Blame.{placed_after, with_bound}
 use Rattle.dual.specs.Dual.{MOST_OVERHAUL, Dual, Bounds}
 use Rattle.dual.proofs.BoundsLaws.{week_more, bounds_week}
-use Rattle.bound.specs.declared.Trial.{Trial}
-use Rattle.bound.specs.declared.Trial.TheVariants.{Holds, Fails}
 use Rattle.bound.specs.Tests.{WeekDue, Shuts, WeekShuts, WeekHolds, WeekTested, TestedTo, WeeksTested, Tested}
 use Rattle.bound.specs.Tests.{MOST_BOUND, StartPermitted, OverhaulWeeks, StartDue, WeeksDue}
 
@@ -177,14 +176,14 @@ weeks_few ws l us rows node xs memo first end d w = omega (arith, w.season, d.fi
 
 -- the bound comes to what is wanted before all weeks are tested
 pub tested_reached : (p : Problem) (us : List ℕ) (a : NumSet) (starts : ℕ → ℕ) (j t : ℕ) (xs : List ℕ) (r : Euro) (wanted : ℕ) → TestedTo p us a starts j t xs r.0
-    → wanted ≤ r.0 → Tested p us a starts j wanted xs (Holds r)
+    → wanted ≤ r.0 → Tested p us a starts j wanted xs (Ok r)
 tested_reached p us a starts j t xs r wanted h le = (h.bounds, λ less. absurd (omega arith))
 
 -- all weeks: one unit more stands
 pub tested_ended : (ws : List ℕ) (l : Layout) (us rows : List ℕ) (node : Node) (xs memo : List ℕ) (first end t wanted : ℕ) (ys : List ℕ) (r : Euro)
     → StartDue ws l us rows node xs memo → OverhaulWeeks (problem_of ws) node first end → t ≤ end → end ≤ t
     → TestedTo (problem_of ws) us (has node.placed) (entry node.starts) node.unit t ys r.0
-    → Tested (problem_of ws) us (has node.placed) (entry node.starts) node.unit wanted ys (Holds r)
+    → Tested (problem_of ws) us (has node.placed) (entry node.starts) node.unit wanted ys (Ok r)
 tested_ended ws l us rows node xs memo first end t wanted ys r d w a b h = (
   h.bounds,
   λ less. record {
@@ -205,17 +204,17 @@ tested_ended ws l us rows node xs memo first end t wanted ys r d w a b h = (
     all q =
         ap (λ (n : ℕ). partly p (has node.placed) (entry node.starts) node.unit n q) whole ∙ fun_ext (partly_all p (has node.placed) (entry node.starts) node.unit q)
 
--- the verdict of a week, taken over
-module _ (p : Problem) (us : List ℕ) (node next : Node) (r₀ : Euro) (t : ℕ) (xs : List ℕ) (v : Trial) (is : next ≡ with_bound node r₀)
-    (h : WeeksTested p us (has next.placed) (entry next.starts) next.unit t xs v) where
-  own : WeeksTested p us (has node.placed) (entry node.starts) node.unit t xs v
-  own = subst (λ (n : Node). WeeksTested p us (has n.placed) (entry n.starts) n.unit t xs v) is h
+-- a week more, taken over from the node with the bound so far
+pub tested_more : (p : Problem) (us : List ℕ) (node next : Node) (r₀ r : Euro) (t : ℕ) (xs : List ℕ) → next ≡ with_bound node r₀
+    → WeeksTested p us (has next.placed) (entry next.starts) next.unit t xs (Ok r)
+    → TestedTo p us (has node.placed) (entry node.starts) node.unit (t + 1) xs r.0
+tested_more p us node next r₀ r t xs is h = subst (λ (n : Node). TestedTo p us (has n.placed) (entry n.starts) n.unit (t + 1) xs r.0) is h
 
-  pub tested_shut : (wanted b : ℕ) → v ≡ Fails b → Tested p us (has node.placed) (entry node.starts) node.unit wanted xs (Fails b)
-  tested_shut wanted b e = subst (WeeksTested p us (has node.placed) (entry node.starts) node.unit t xs) e own
-
-  pub tested_more : (r : Euro) → v ≡ Holds r → TestedTo p us (has node.placed) (entry node.starts) node.unit (t + 1) xs r.0
-  tested_more r e = subst (WeeksTested p us (has node.placed) (entry node.starts) node.unit t xs) e own
+-- and one that is a dead end
+pub tested_shut : (p : Problem) (us : List ℕ) (node next : Node) (r₀ : Euro) (t wanted b : ℕ) (xs : List ℕ) → next ≡ with_bound node r₀
+    → WeeksTested p us (has next.placed) (entry next.starts) next.unit t xs (Err b)
+    → Tested p us (has node.placed) (entry node.starts) node.unit wanted xs (Err b)
+tested_shut p us node next r₀ t wanted b xs is h = subst (λ (n : Node). Shuts p (placed_after n) (entry n.starts) b) is h
 
 -- ---- one week
 
@@ -297,13 +296,13 @@ module _ (ws : List ℕ) (l : Layout) (us rows : List ℕ) (node : Node) (t : �
       placed i (inr z) = subst (λ (x : ℕ). with a j x ≡ true) (sym z) (with_at a j)
 
   -- a week that fails
-  pub week_shut : (v : Trial) (b : ℕ) → WeekTested (problem_of ws) (price_in us) node.unit t (get_or rows t 0) v → v ≡ Fails b
+  pub week_shut : (b : ℕ) → WeekTested (problem_of ws) (price_in us) node.unit t (get_or rows t 0) (Err b)
       → Shuts (problem_of ws) (placed_after node) (entry node.starts) b
-  week_shut v b h e = blamed_shut b (subst (WeekTested p (price_in us) j t (get_or rows t 0)) e h)
+  week_shut b h = blamed_shut b h
 
-  module _ (v : Trial) (r : Euro) (h : WeekTested (problem_of ws) (price_in us) node.unit t (get_or rows t 0) v) (e : v ≡ Holds r) where
+  module _ (r : Euro) (h : WeekTested (problem_of ws) (price_in us) node.unit t (get_or rows t 0) (Ok r)) where
     holds : WeekHolds (problem_of ws) (price_in us) (out_of (problem_of ws) (has node.placed) (entry node.starts) t) node.unit t r.0
-    holds = subst (λ (a : NumSet). WeekHolds p (price_in us) a j t r.0) row_set (subst (WeekTested p (price_in us) j t (get_or rows t 0)) e h)
+    holds = subst (λ (a : NumSet). WeekHolds p (price_in us) a j t r.0) row_set h
 
     -- its value is small
     pub week_small : r.0 ≤ NO_RUN

@@ -8,6 +8,7 @@ use mathlib.Core.List.{List}
 use native.Mathlib.Omega.{arith}
 use lib.Dec.{eqb}
 use borrow.Author.Tests.{eq-eqb}
+use Rattle.std.proofs.Common.{Result, Ok, Err}
 use Rattle.sums.specs.NumSet.{NumSet, has, with}
 use Rattle.sums.proofs.LogicLaws.{true_false, and_of, and_left, and_right, or_left, or_right, not_so}
 use Rattle.sums.proofs.NumSetLaws.{zero_has}
@@ -18,6 +19,7 @@ use Rattle.model.specs.Schedule.{out_in}
 use Rattle.model.specs.Commitment.{NO_RUN}
 use Rattle.model.specs.Words.{problem_of}
 use Rattle.model.proofs.FileLaws.{ranged, fair}
+use Rattle.instance.specs.declared.Euro.{Euro}
 use Rattle.instance.specs.Filed.{Filed}
 use Rattle.commitment.specs.declared.Tally.{Tally}
 use Rattle.commitment.specs.Tally.{Tallies}
@@ -27,8 +29,6 @@ use Rattle.blame.proofs.ClosedLaws.{crews_closed, pair_closed, demand_closed}
 use Rattle.tables.specs.Tables.{partners_in}
 use Rattle.relaxation.specs.Relaxed.{WeekAt, Value}
 use Rattle.bound.specs.Rows.{tally_of}
-use Rattle.bound.specs.declared.Trial.{Trial}
-use Rattle.bound.specs.declared.Trial.TheVariants.{Holds, Fails}
 use Rattle.bound.specs.Tests.{WeekDue, OutShuts, OutHolds, OutTested, WeekShuts, WeekHolds, WeekTested}
 use Rattle.bound.proofs.RowLaws.{Member, some_member}
 
@@ -135,6 +135,6 @@ module _ (ws : List ℕ) (l : Layout) (us : List ℕ) (j t word partners both : 
       shuts = h.1;
     }
 
-    pub week_tested : (u : ℕ → ℕ → ℕ) (v : Trial) → OutTested (problem_of ws) u t z.out v → WeekTested (problem_of ws) u j t word v
-    week_tested u (Holds r) h = holds u r.0 h
-    week_tested u (Fails b) h = shuts b h
+    pub week_tested : (u : ℕ → ℕ → ℕ) (v : Result Euro ℕ) → OutTested (problem_of ws) u t z.out v → WeekTested (problem_of ws) u j t word v
+    week_tested u (Ok r) h = holds u r.0 h
+    week_tested u (Err b) h = shuts b h

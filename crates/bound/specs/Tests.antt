@@ -1,6 +1,6 @@
 -- What the tests of a start say: it holds, and the units placed stand with this lower bound; or some units' starts are a dead end.
 -- Assumes nothing.
-use Rattle.std.specs.Prelude.{ℕ, ◌+◌, ◌-◌, ◌%◌, ◌≤◌, ◌<◌, ◌≡◌, Bool, true, false, List, length, get_or, eqb}
+use Rattle.std.specs.Prelude.{ℕ, ◌+◌, ◌-◌, ◌%◌, ◌≤◌, ◌<◌, ◌≡◌, Bool, true, false, List, length, get_or, eqb, Result, Ok, Err}
 use Rattle.sums.specs.Range.{some_to}
 use Rattle.sums.specs.NumSet.{NumSet, has, with}
 use Rattle.sums.specs.Table.{entry}
@@ -14,6 +14,7 @@ use Rattle.model.specs.Commitment.{full_least, NO_RUN}
 use Rattle.model.specs.Plan.{Compatible}
 use Rattle.model.specs.Nogood.{MOST_LIMIT}
 use Rattle.model.specs.Words.{problem_of}
+use Rattle.instance.specs.declared.Euro.{Euro}
 use Rattle.instance.specs.Filed.{Filed}
 use Rattle.commitment.specs.Tally.{Tallies}
 use Rattle.blame.specs.Closed.{Closed}
@@ -25,8 +26,6 @@ use Rattle.dual.specs.declared.Node.{Node}
 use Rattle.dual.specs.Dual.{Dual, Bounds}
 use Rattle.dual.specs.Blame.{placed_after, PermitsOf, with_bound}
 use Rattle.bound.specs.Rows.{tally_of, Rows}
-use Rattle.bound.specs.declared.Trial.{Trial}
-use Rattle.bound.specs.declared.Trial.TheVariants.{Holds, Fails}
 
 -- ---- what bounds come to
 
@@ -69,9 +68,9 @@ pub record OutHolds (p : Problem) (u : ℕ → ℕ → ℕ) (t : ℕ) (a : NumSe
   pub small : v ≤ NO_RUN
 
 -- the test of who is out in a week; where it fails all of them are to blame
-abbrev pub OutTested : Problem → (u : ℕ → ℕ → ℕ) → (t out : ℕ) → Trial → Type 0
-OutTested p u t out (Holds r) = OutHolds p u t (has out) r.0
-OutTested p u t out (Fails b) = (b ≡ out) × OutShuts p t b
+abbrev pub OutTested : Problem → (u : ℕ → ℕ → ℕ) → (t out : ℕ) → Result Euro ℕ → Type 0
+OutTested p u t out (Ok r) = OutHolds p u t (has out) r.0
+OutTested p u t out (Err b) = (b ≡ out) × OutShuts p t b
 
 -- the units of b, all of a or unit j, may not be out together in week t
 pub record WeekShuts (p : Problem) (a : NumSet) (j t b : ℕ) : Type 0 where
@@ -86,9 +85,9 @@ pub record WeekHolds (p : Problem) (u : ℕ → ℕ → ℕ) (a : NumSet) (j t v
   pub small : v ≤ NO_RUN
 
 -- the test of a week, by the word with its tally
-abbrev pub WeekTested : Problem → (u : ℕ → ℕ → ℕ) → (j t word : ℕ) → Trial → Type 0
-WeekTested p u j t word (Holds r) = WeekHolds p u (has (word % SETS)) j t r.0
-WeekTested p u j t word (Fails b) = WeekShuts p (has (word % SETS)) j t b
+abbrev pub WeekTested : Problem → (u : ℕ → ℕ → ℕ) → (j t word : ℕ) → Result Euro ℕ → Type 0
+WeekTested p u j t word (Ok r) = WeekHolds p u (has (word % SETS)) j t r.0
+WeekTested p u j t word (Err b) = WeekShuts p (has (word % SETS)) j t b
 
 -- ---- the weeks of an overhaul
 
@@ -118,14 +117,14 @@ pub record TestedTo (p : Problem) (us : List ℕ) (a : NumSet) (starts : ℕ →
   pub bounds : Bounds p us (with a j) starts xs r
 
 -- week t as well, or a dead end below every limit
-abbrev pub WeeksTested : Problem → (us : List ℕ) → (a : NumSet) → (starts : ℕ → ℕ) → (j t : ℕ) → List ℕ → Trial → Type 0
-WeeksTested p us a starts j t xs (Holds r) = TestedTo p us a starts j (t + 1) xs r.0
-WeeksTested p us a starts j t xs (Fails b) = Shuts p (with a j) starts b
+abbrev pub WeeksTested : Problem → (us : List ℕ) → (a : NumSet) → (starts : ℕ → ℕ) → (j t : ℕ) → List ℕ → Result Euro ℕ → Type 0
+WeeksTested p us a starts j t xs (Ok r) = TestedTo p us a starts j (t + 1) xs r.0
+WeeksTested p us a starts j t xs (Err b) = Shuts p (with a j) starts b
 
 -- the test of the weeks of unit j's overhaul, as far as the bound stays below what is wanted
-abbrev pub Tested : Problem → (us : List ℕ) → (a : NumSet) → (starts : ℕ → ℕ) → (j wanted : ℕ) → List ℕ → Trial → Type 0
-Tested p us a starts j wanted xs (Holds r) = Bounds p us (with a j) starts xs r.0 × (r.0 < wanted → Standing p (with a j) starts)
-Tested p us a starts j wanted xs (Fails b) = Shuts p (with a j) starts b
+abbrev pub Tested : Problem → (us : List ℕ) → (a : NumSet) → (starts : ℕ → ℕ) → (j wanted : ℕ) → List ℕ → Result Euro ℕ → Type 0
+Tested p us a starts j wanted xs (Ok r) = Bounds p us (with a j) starts xs r.0 × (r.0 < wanted → Standing p (with a j) starts)
+Tested p us a starts j wanted xs (Err b) = Shuts p (with a j) starts b
 
 -- ---- a start
 
@@ -135,9 +134,9 @@ pub record Stands (p : Problem) (us : List ℕ) (a : NumSet) (starts : ℕ → �
   pub bounds : Bounds p us a starts xs r
 
 -- a start is judged: one unit more stands; or some of them are a dead end
-abbrev pub Judged : Problem → (us : List ℕ) → Node → (limit : ℕ) → List ℕ → Trial → Type 0
-Judged p us node limit xs (Holds r) = Stands p us (placed_after node) (entry node.starts) xs r.0
-Judged p us node limit xs (Fails b) = Blames p (placed_after node) (entry node.starts) limit b
+abbrev pub Judged : Problem → (us : List ℕ) → Node → (limit : ℕ) → List ℕ → Result Euro ℕ → Type 0
+Judged p us node limit xs (Ok r) = Stands p us (placed_after node) (entry node.starts) xs r.0
+Judged p us node limit xs (Err b) = Blames p (placed_after node) (entry node.starts) limit b
 
 -- ---- what the functions ask
 
@@ -172,13 +171,13 @@ pub record WeeksDue (ws : List ℕ) (l : Layout) (us rows : List ℕ) (node : No
   pub tested : TestedTo (problem_of ws) us (has node.placed) (entry node.starts) node.unit t xs node.bound.0
   pub recalls : MemoTrue (problem_of ws) (price_in us) memo
 
--- a verdict of the weeks that is to be weighed against a limit
-pub record Weighing (ws : List ℕ) (l : Layout) (us : List ℕ) (node : Node) (v : Trial) (limit : ℕ) (xs : List ℕ) : Type 0 where
+-- a bound with the weeks that is to be weighed against a limit
+pub record Weighing (ws : List ℕ) (l : Layout) (us : List ℕ) (node : Node) (total : Euro) (limit : ℕ) (xs : List ℕ) : Type 0 where
   pub filed : Filed ws l
   pub dual : Dual (problem_of ws) us
   pub unit : node.unit < l.units
   pub permits : PermitsOf (problem_of ws) (placed_after node) (entry node.starts)
-  pub tested : Tested (problem_of ws) us (has node.placed) (entry node.starts) node.unit (limit + total_in us) xs v
+  pub tested : Tested (problem_of ws) us (has node.placed) (entry node.starts) node.unit (limit + total_in us) xs (Ok total)
   pub small : limit ≤ MOST_LIMIT
 
 -- before the start of the node's unit is tested: those placed stand at the node's bound
@@ -212,9 +211,9 @@ pub record RootValues (us xs : List ℕ) : Type 0 where
   pub each : (t : ℕ) → t < 52 → entry xs t ≡ root_in us t
 
 -- no unit is placed, whatever the starts: r is a lower bound; or nothing is left below the limit, and nobody is to blame
-abbrev pub Rooted : Problem → (us : List ℕ) → ℕ → Trial → Type 0
-Rooted p us limit (Holds r) = (xs : List ℕ) → RootValues us xs → AllStand p us xs r.0
-Rooted p us limit (Fails b) = AllBlame p limit b
+abbrev pub Rooted : Problem → (us : List ℕ) → ℕ → Result Euro ℕ → Type 0
+Rooted p us limit (Ok r) = (xs : List ℕ) → RootValues us xs → AllStand p us xs r.0
+Rooted p us limit (Err b) = AllBlame p limit b
 
 -- unit i has no permitted start
 unfoldable pub no_start : Problem → ℕ → Bool

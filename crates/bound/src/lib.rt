@@ -33,13 +33,6 @@ use tallies::ROW_SETS;
 mod tallies;
 mod weeks;
 
-// A start holds, and the lower bound with it is this; or it fails, by the starts of these units.
-#[derive(Clone, Copy)]
-pub enum Trial {
-    Holds(Euro),
-    Fails(u32),
-}
-
 // ---- rows
 
 // The rows with unit j out in the weeks of its overhaul (D55).
@@ -73,16 +66,14 @@ pub fn no_rows() -> [u64; 52]
 pub fn row_units(word: u64) -> u32
     ensures { result ≡ word % SETS }
 {
-    let y = tallies::tally(word);
-    y.out
+    tallies::tally(word).out
 }
 
 // How many they are.
 pub fn row_count(word: u64) -> usize
     ensures { result ≡ word / SETS % COUNTS }
 {
-    let y = tallies::tally(word);
-    y.count
+    tallies::tally(word).count
 }
 
 // ---- a start
@@ -92,41 +83,36 @@ fn with_start(tables: &[u32; TABLES], node: Node) -> Node
     requires { StartBounded node }
     ensures { result ≡ with_start tables.now node }
 {
-    let starts = node.starts;
-    let j = node.unit;
-    let bound = node.bound;
-    let start = starts[j] as usize;
-    dual::with_bound(node, bound.plus(tables::excess(tables, j, start)))
+    let start = node.starts[node.unit] as usize;
+    dual::with_bound(
+        node,
+        node.bound.plus(tables::excess(tables, node.unit, start)),
+    )
 }
 
-// The verdict of the weeks, weighed against the limit: a bound that comes to it blames those whose starts keep it there.
+// The bound with the weeks, weighed against the limit: one that comes to it blames those whose starts keep it there.
 fn weigh(
     words: &[u32],
     l: Layout,
     tables: &[u32; TABLES],
     node: Node,
-    v: Trial,
+    total: Euro,
     limit: Euro,
     values: &mut [u32],
-) -> Trial
-    requires { Weighing words.now l tables.now node v limit.0 values.old }
+) -> Result<Euro, u32>
+    requires { Weighing words.now l tables.now node total limit.0 values.old }
     ensures { Judged (problem_of words.now) tables.now node limit.0 values.new result }
 {
-    match v {
-        Trial::Fails(b) => Trial::Fails(b),
-        Trial::Holds(total) => {
-            let wanted = dual::wanted(tables, limit);
-            if total.0 < wanted.0 {
-                return Trial::Holds(total);
-            }
-            let placed = dual::next_node(node, total);
-            Trial::Fails(dual::find_blame(words, l, tables, placed, limit, values))
-        }
+    let wanted = dual::wanted(tables, limit);
+    if total.0 < wanted.0 {
+        return Ok(total);
     }
+    let placed = dual::next_node(node, total);
+    Err(dual::find_blame(words, l, tables, placed, limit, values))
 }
 
-// The node's unit at its start, with the units placed as the rows have them: the rules in the weeks of its overhaul, and the lower bound. The values
-// of the weeks are those without the unit before, and those with it after where it holds (D56).
+// The node's unit at its start, with the units placed as the rows have them: the rules in the weeks of its overhaul, and the lower bound; or the units
+// whose starts are a dead end. The values of the weeks are those without the unit before, and those with it after where it holds (D56).
 pub fn test(
     words: &[u32],
     l: Layout,
@@ -136,15 +122,15 @@ pub fn test(
     limit: Euro,
     values: &mut [u32],
     memo: &mut [u32],
-) -> Trial
+) -> Result<Euro, u32>
     requires { TestDue words.now l tables.now rows.now node limit.0 values.old memo.old }
     ensures answer { Judged (problem_of words.now) tables.now node limit.0 values.new result }
     ensures recalls { MemoTrue (problem_of words.now) (price_in tables.now) memo.new }
 {
     let wanted = dual::wanted(tables, limit);
     let started = with_start(tables, node);
-    let v = weeks::test_weeks(words, l, tables, rows, started, wanted, values, memo);
-    weigh(words, l, tables, node, v, limit, values)
+    let total = weeks::test_weeks(words, l, tables, rows, started, wanted, values, memo)?;
+    weigh(words, l, tables, node, total, limit, values)
 }
 
 // ---- before any unit is placed
@@ -163,7 +149,7 @@ fn least_sum(words: &[u32], l: Layout, tables: &[u32; TABLES]) -> Euro
 }
 
 // The lower bound with nobody out; or no schedule is below the limit at all (D61).
-pub fn root(words: &[u32], l: Layout, tables: &[u32; TABLES], limit: Euro) -> Trial
+pub fn root(words: &[u32], l: Layout, tables: &[u32; TABLES], limit: Euro) -> Result<Euro, u32>
     requires { RootDue words.now l tables.now limit.0 }
     ensures { Rooted (problem_of words.now) tables.now limit.0 result }
 {
@@ -173,14 +159,14 @@ pub fn root(words: &[u32], l: Layout, tables: &[u32; TABLES], limit: Euro) -> Tr
     for t in 0..weeks {
         let value = tables::root_value(tables, t);
         if NO_RUN <= value.0 {
-            return Trial::Fails(0);
+            return Err(0);
         }
         sum = sum.plus(value);
     }
     if wanted.0 <= sum.0 {
-        return Trial::Fails(0);
+        return Err(0);
     }
-    Trial::Holds(sum)
+    Ok(sum)
 }
 
 // What each week is worth with nobody out.
@@ -219,8 +205,7 @@ fn tally_cost(words: &[u32], l: Layout, t: usize, word: u64, memo: &mut [u32]) -
     ensures right { Right (problem_of words.now) memo.new × Others memo.old memo.new }
 {
     let y = tallies::tally(word);
-    let out = y.out;
-    let run = memo::least_cost(words, l, t, out, memo);
+    let run = memo::least_cost(words, l, t, y.out, memo);
     y.cost.plus(run)
 }
 
@@ -260,6 +245,7 @@ fn all_rows(words: &[u32], l: Layout, starts: [u8; 16]) -> [u64; 52]
     let units = l.units;
     let mut rows = no_rows();
     for j in 0..units {
+        // By way of a variable: the check covers no call whose result is laid in an array that it is lent.
         let next = placed_rows(words, l, &rows, starts, j);
         rows = next;
     }

@@ -31,9 +31,7 @@ fn packed(y: Tally) -> u64
     requires { Packs y }
     ensures { result ≡ word_of y }
 {
-    let out = y.out as u64;
-    let count = y.count as u64;
-    (y.cost.0 * COUNTS + count) * ROW_SETS + out
+    (y.cost.0 * COUNTS + y.count as u64) * ROW_SETS + y.out as u64
 }
 
 // The word of week t with unit i out as well.

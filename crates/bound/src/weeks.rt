@@ -12,7 +12,7 @@ ghost use Rattle.bound.specs.Tests.{WeekDue, OutTested, WeekTested, WeeksTested,
 ghost use Rattle.bound.specs.Tests.{StartPermitted, OverhaulWeeks, StartDue, WeeksDue};
 ghost use Rattle.bound.specs.Tests.{MOST_BOUND};
 
-use crate::{Trial, tallies};
+use crate::tallies;
 use commitment::Tally;
 use dual::Node;
 use instance::Euro;
@@ -51,20 +51,19 @@ fn test_out(
     t: usize,
     y: Tally,
     memo: &mut [u32],
-) -> Trial
+) -> Result<Euro, u32>
     requires { WeekAt words.now l tables.now t × Tallies (problem_of words.now) t y × MemoTrue (problem_of words.now) (price_in tables.now) memo.old }
     ensures answer { OutTested (problem_of words.now) (price_in tables.now) t y.out result }
     ensures recalls { MemoTrue (problem_of words.now) (price_in tables.now) memo.new }
 {
-    let out = y.out;
     if instance::crews(words, l) < y.count {
-        return Trial::Fails(out);
+        return Err(y.out);
     }
-    let value = relaxation::week_value(words, l, tables, t, out, memo);
+    let value = relaxation::week_value(words, l, tables, t, y.out, memo);
     if NO_RUN <= value.0 {
-        return Trial::Fails(out);
+        return Err(y.out);
     }
-    Trial::Holds(value)
+    Ok(value)
 }
 
 // Week t with unit j out as well: the excluded pairs (8), then the tests of all who are out.
@@ -76,7 +75,7 @@ fn test_week(
     t: usize,
     word: u64,
     memo: &mut [u32],
-) -> Trial
+) -> Result<Euro, u32>
     requires { WeekAt words.now l tables.now t × (j < l.units) × WeekDue (problem_of words.now) t word
         × MemoTrue (problem_of words.now) (price_in tables.now) memo.old }
     ensures answer { WeekTested (problem_of words.now) (price_in tables.now) j t word result }
@@ -85,7 +84,7 @@ fn test_week(
     let y = tallies::tally(word);
     let both = sets::intersection(y.out, tables::partners(tables, j));
     if both != 0 {
-        return Trial::Fails(sets::with(both, j));
+        return Err(sets::with(both, j));
     }
     test_out(words, l, tables, t, y.with_unit(words, l, t, j), memo)
 }
@@ -119,19 +118,13 @@ fn test_next(
     t: usize,
     values: &mut [u32],
     memo: &mut [u32],
-) -> Trial
+) -> Result<Euro, u32>
     requires { WeeksDue words.now l tables.now rows.now node t values.old memo.old }
     ensures answer { WeeksTested (problem_of words.now) tables.now (has node.placed) (entry node.starts) node.unit t values.new result }
     ensures recalls { MemoTrue (problem_of words.now) (price_in tables.now) memo.new }
 {
-    let v = test_week(words, l, tables, node.unit, t, rows[t], memo);
-    match v {
-        Trial::Fails(b) => Trial::Fails(b),
-        Trial::Holds(value) => {
-            let sum = node.bound;
-            Trial::Holds(put_value(sum, t, value, values))
-        }
-    }
+    let value = test_week(words, l, tables, node.unit, t, rows[t], memo)?;
+    Ok(put_value(node.bound, t, value, values))
 }
 
 // ---- all weeks of an overhaul
@@ -146,7 +139,7 @@ pub fn test_weeks(
     wanted: Euro,
     values: &mut [u32],
     memo: &mut [u32],
-) -> Trial
+) -> Result<Euro, u32>
     requires { StartDue words.now l tables.now rows.now node values.old memo.old }
     ensures answer { Tested (problem_of words.now) tables.now (has node.placed) (entry node.starts) node.unit
         wanted.0 values.new result }
@@ -157,26 +150,10 @@ pub fn test_weeks(
     // Each time round, the weeks before t hold with the unit out, and `total` is a bound with what they are worth then.
     for t in weeks.first..weeks.end {
         if wanted.0 <= total.0 {
-            return Trial::Holds(total);
+            return Ok(total);
         }
-        let v = test_next(
-            words,
-            l,
-            tables,
-            rows,
-            dual::with_bound(node, total),
-            t,
-            values,
-            memo,
-        );
-        match v {
-            Trial::Fails(b) => {
-                return Trial::Fails(b);
-            }
-            Trial::Holds(sum) => {
-                total = sum;
-            }
-        }
+        let next = dual::with_bound(node, total);
+        total = test_next(words, l, tables, rows, next, t, values, memo)?;
     }
-    Trial::Holds(total)
+    Ok(total)
 }

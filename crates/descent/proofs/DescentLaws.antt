@@ -2,7 +2,7 @@
 -- Assumes nothing.
 use Prim.Native.Nat.{ℕ, ◌+◌, ◌≤◌, ◌<◌}
 use mathlib.Core.Path.{◌≡◌, refl, sym, ◌∙◌, ap, subst}
-use mathlib.Core.Bool.{true}
+use mathlib.Core.Bool.{Bool, true, false}
 use mathlib.Core.List.{List}
 use mathlib.Core.Logic.{◌⊎◌, inl, inr}
 use native.Mathlib.Nat.{eq-or-lt_of_le}
@@ -12,6 +12,7 @@ use lib.Dec.{ltb}
 use borrow.Author.Tests.{ltb-true, lt-ltb}
 use Rattle.sums.specs.NumSet.{has}
 use Rattle.sums.specs.Table.{entry}
+use Rattle.sums.proofs.LogicLaws.{true_false}
 use Rattle.model.specs.Problem.{Problem, Fair}
 use Rattle.model.specs.Schedule.{Schedule, out_in, Sound, cost}
 use Rattle.model.specs.Order.{Same, Lower}
@@ -20,7 +21,34 @@ use Rattle.blame.specs.Placed.{first_units, paid, plan_of}
 use Rattle.blame.proofs.PlacedLaws.{leaf_sound, leaf_cost, leaf_first}
 use Rattle.walk.specs.Walk.{AllSettled, IsIncumbent}
 use Rattle.probe.specs.Probe.{PlanStands, PlanAt, TriedTo}
+use Rattle.descent.specs.declared.Ending.{Ending}
+use Rattle.descent.specs.declared.Ending.TheVariants.{Earliest, NextStart, Spent}
 use Rattle.descent.specs.Descent.{Descending, Lowering}
+
+-- ---- how a descent comes back
+
+is_earliest : Ending → Bool
+is_earliest Earliest = true
+is_earliest NextStart = false
+is_earliest Spent = false
+
+is_next : Ending → Bool
+is_next Earliest = false
+is_next NextStart = true
+is_next Spent = false
+
+-- in one way
+pub earliest_next : {A : Type 0} (x : Ending) → x ≡ Earliest → x ≡ NextStart → A
+unfolding is_earliest
+earliest_next x e n = true_false (sym (ap is_earliest e) ∙ ap is_earliest n)
+
+pub earliest_spent : {A : Type 0} (x : Ending) → x ≡ Earliest → x ≡ Spent → A
+unfolding is_earliest
+earliest_spent x e s = true_false (sym (ap is_earliest e) ∙ ap is_earliest s)
+
+pub next_spent : {A : Type 0} (x : Ending) → x ≡ NextStart → x ≡ Spent → A
+unfolding is_next
+next_spent x n s = true_false (sym (ap is_next n) ∙ ap is_next s)
 
 -- ---- schedules before a place
 

@@ -32,8 +32,9 @@ use Rattle.walk.proofs.StateLaws.{carried_same, held_carried}
 use Rattle.probe.specs.declared.Visit.{Visit}
 use Rattle.probe.specs.Probe.{Says, Probed, Opened, PlaceDue, PlaceDone}
 use Rattle.descent.specs.declared.Descent.{Descent}
+use Rattle.descent.specs.declared.Ending.TheVariants.{Earliest, NextStart, Spent as TriesSpent}
 use Rattle.descent.specs.Descent.{Descending, Lowering, UnitNeeds, HeldDue, Keeps, Told, IsAt, Failed, Found}
-use Rattle.descent.proofs.DescentLaws.{lowering_next, lowering_kept, lowering_found}
+use Rattle.descent.proofs.DescentLaws.{earliest_next, earliest_spent, next_spent, lowering_next, lowering_kept, lowering_found}
 
 -- ---- the start of the unit placed last
 
@@ -48,41 +49,38 @@ keeps_not node best = record { same = λ z. true_false (sym z) }
 
 -- a plan
 pub told_plan : (step : Step) (limit : Euro) (s : State) (r : Descent) → s ≡ limited_to step.state limit → step.state.limit.0 < limit.0
-    → r.state ≡ s → r.whole ≡ true → r.next ≡ false → Told step limit r
-told_plan step limit s r es less e w n = record {
-  used_is = ap (λ (x : State). x.used) (e ∙ es);
+    → r ≡ record { state = s; ending = Earliest } → Told step limit r
+told_plan step limit s r es less is = subst (Told step limit) (sym is) (record {
+  used_is = ap (λ (x : State). x.used) es;
   less = λ _. less;
-  plan = λ _. e ∙ es;
-  unspent = λ z. true_false (sym z ∙ n);
-  none = λ z. true_false (sym z ∙ n);
-  same = λ z. true_false (sym z ∙ n);
-  one = λ _. n;
-}
+  plan = λ _. es;
+  unspent = λ z. earliest_next Earliest refl z;
+  none = λ z. earliest_next Earliest refl z;
+  same = λ z. earliest_next Earliest refl z;
+})
 
 -- the tries are spent
-pub told_spent : (step : Step) (limit : Euro) (r : Descent) → r.state ≡ step.state → r.whole ≡ false → r.next ≡ false → Told step limit r
-told_spent step limit r e w n = record {
-  used_is = ap (λ (x : State). x.used) e;
-  less = λ z. true_false (sym z ∙ w);
-  plan = λ z. true_false (sym z ∙ w);
-  unspent = λ z. true_false (sym z ∙ n);
-  none = λ z. true_false (sym z ∙ n);
-  same = λ z. true_false (sym z ∙ n);
-  one = λ z. true_false (sym z ∙ w);
-}
+pub told_spent : (step : Step) (limit : Euro) (r : Descent) → r ≡ record { state = step.state; ending = TriesSpent } → Told step limit r
+told_spent step limit r is = subst (Told step limit) (sym is) (record {
+  used_is = refl;
+  less = λ z. earliest_spent TriesSpent z refl;
+  plan = λ z. earliest_spent TriesSpent z refl;
+  unspent = λ z. next_spent TriesSpent z refl;
+  none = λ z. next_spent TriesSpent z refl;
+  same = λ z. next_spent TriesSpent z refl;
+})
 
 -- none
-pub told_none : (step : Step) (limit : Euro) (w : Walked) (b : ℕ) (r : Descent) → step.walked ≡ w → w ≡ Dead b → limit.0 ≤ step.state.limit.0
-    → r.state ≡ step.state → r.whole ≡ false → Told step limit r
-told_none step limit w b r is dead le e no-plan = record {
-  used_is = ap (λ (x : State). x.used) e;
-  less = λ z. true_false (sym z ∙ no-plan);
-  plan = λ z. true_false (sym z ∙ no-plan);
-  unspent = λ _. subst Unspent (sym (is ∙ dead)) tt;
+pub told_none : (step : Step) (limit : Euro) (b : ℕ) (r : Descent) → step.walked ≡ Dead b → limit.0 ≤ step.state.limit.0
+    → r ≡ record { state = step.state; ending = NextStart } → Told step limit r
+told_none step limit b r dead le is = subst (Told step limit) (sym is) (record {
+  used_is = refl;
+  less = λ z. earliest_next NextStart z refl;
+  plan = λ z. earliest_next NextStart z refl;
+  unspent = λ _. subst Unspent (sym dead) tt;
   none = λ _. le;
-  same = λ _. e;
-  one = λ z. true_false (sym z ∙ no-plan);
-}
+  same = λ _. refl;
+})
 
 -- ---- a plan with the starts placed
 
@@ -92,11 +90,11 @@ module _ (ws : List ℕ) (l : Layout) (us rows ys : List ℕ) (at : Visit) (w me
   f = d.walking.filed
 
   -- the unit placed last is one of sixteen
-  pub held_some : 1 ≤ at.node.unit
+  pub held_some : 1 ≤ at.visit.node.unit
   unfolding HeldDue
   held_some = omega (arith, d.next)
 
-  pub held_few : at.node.unit ≤ 16
+  pub held_few : at.visit.node.unit ≤ 16
   unfolding HeldDue
   held_few = omega (arith, d.next, d.inside, (ranged ws f.passed).units_most)
 
@@ -119,20 +117,21 @@ module _ (ws : List ℕ) (l : Layout) (us rows ys : List ℕ) (at : Visit) (w me
   held_recalls = d.walking.recalls
 
   -- the plan that is known has the start
-  pub found_kept : (keeps : Bool) (r : Descent) → Keeps at.node at.state.best keeps → keeps ≡ true → r.state ≡ at.state → r.next ≡ false
-      → Found ws l us rows ys at w w memo r
+  pub found_kept : (keeps : Bool) (r : Descent) → Keeps at.visit.node at.visit.state.best keeps → keeps ≡ true
+      → r ≡ record { state = at.visit.state; ending = Earliest } → Found ws l us rows ys at w w memo r
   unfolding HeldDue Found
-  found_kept keeps r k so e n =
-      let unit_is : at.node.unit - 1 ≡ d.j = omega (arith, d.next) in
-      let here : entry at.node.starts d.j ≡ entry at.state.best d.j
-      = subst (λ (i : ℕ). entry at.node.starts i ≡ entry at.state.best i) unit_is (k.same so) in
-      let down : Descending (problem_of ws) (entry at.state.best) d.cost (d.j + 1)
-      = lowering_kept (problem_of ws) (entry at.state.best) d.cost d.j (entry at.node.starts d.j) here d.lowering in
+  found_kept keeps r k so is_so =
+      let e : r.state ≡ at.visit.state = ap (λ (x : Descent). x.state) is_so in
+      let unit_is : at.visit.node.unit - 1 ≡ d.j = omega (arith, d.next) in
+      let here : entry at.visit.node.starts d.j ≡ entry at.visit.state.best d.j
+      = subst (λ (i : ℕ). entry at.visit.node.starts i ≡ entry at.visit.state.best i) unit_is (k.same so) in
+      let down : Descending (problem_of ws) (entry at.visit.state.best) d.cost (d.j + 1)
+      = lowering_kept (problem_of ws) (entry at.visit.state.best) d.cost d.j (entry at.visit.node.starts d.j) here d.lowering in
       record {
-        carried = rw e (carried_same (problem_of ws) w at.state.used);
+        carried = rw e (carried_same (problem_of ws) w at.visit.state.used);
         limit_is = λ _. ap (λ (x : State). x.limit.0) e;
         unit = λ _ below is.
-            let state_is : below.state ≡ at.state = is.state_is ∙ e in
+            let state_is : below.visit.state ≡ at.visit.state = is.state_is ∙ e in
             record {
               walking = d.walking;
               opened = subst₂ (Opened (problem_of ws) w us rows ys) (sym is.node_is) (sym state_is) d.opened;
@@ -145,41 +144,41 @@ module _ (ws : List ℕ) (l : Layout) (us rows ys : List ℕ) (at : Visit) (w me
               };
               descending = rw (is.node_is, state_is, d.next) down;
             };
-        fails = λ z. true_false (sym z ∙ n);
+        fails = λ z. earliest_next r.ending (ap (λ (x : Descent). x.ending) is_so) z;
       }
     where
-      agrees : entry at.node.starts d.j ≡ entry at.state.best d.j → Same at.node.unit (entry at.node.starts) (entry at.state.best)
-      agrees here = rw d.next (below_more (λ k. entry at.node.starts k ≡ entry at.state.best k) d.j d.agrees here)
+      agrees : entry at.visit.node.starts d.j ≡ entry at.visit.state.best d.j → Same at.visit.node.unit (entry at.visit.node.starts) (entry at.visit.state.best)
+      agrees here = rw d.next (below_more (λ k. entry at.visit.node.starts k ≡ entry at.visit.state.best k) d.j d.agrees here)
 
   module _ (w' memo' : List ℕ) (step : Step) (r : Descent)
-      (done : PlaceDone (problem_of ws) w w' at.node at.state step) (told : Told step at.state.limit r) (recalls : MemoTrue (problem_of ws) (price_in us) memo') where
-    x : Probed (problem_of ws) (has at.node.placed) (entry at.node.starts) w w' at.state step
+      (done : PlaceDone (problem_of ws) w w' at.visit.node at.visit.state step) (told : Told step at.visit.state.limit r) (recalls : MemoTrue (problem_of ws) (price_in us) memo') where
+    x : Probed (problem_of ws) (has at.visit.node.placed) (entry at.visit.node.starts) w w' at.visit.state step
     unfolding PlaceDone
     x = done
 
-    carried : Carried (problem_of ws) w at.state.used w' r.state.used
+    carried : Carried (problem_of ws) w at.visit.state.used w' r.state.used
     carried = rw told.used_is x.goes.carried
 
     -- the probe's plan with the starts placed
-    module _ (so : r.whole ≡ true) where
+    module _ (so : r.ending ≡ Earliest) where
       best_is : r.state.best ≡ step.state.best
       best_is = ap (λ (s : State). s.best) (told.plan so)
 
-      limit_is : r.state.limit.0 ≡ at.state.limit.0
+      limit_is : r.state.limit.0 ≡ at.visit.state.limit.0
       limit_is = ap (λ (s : State). s.limit.0) (told.plan so)
 
-      fell : step.state.limit.0 < at.state.limit.0
+      fell : step.state.limit.0 < at.visit.state.limit.0
       fell = omega (arith, told.less so)
 
-      plan_has : (k : ℕ) → k < at.node.unit → entry step.state.best k ≡ entry at.node.starts k
+      plan_has : (k : ℕ) → k < at.visit.node.unit → entry step.state.best k ≡ entry at.visit.node.starts k
       unfolding HeldDue
       plan_has k m =
-          (x.improves.reached fell).agrees k (omega (arith, d.next, d.inside)) (d.order.each k ∙ lt-ltb k at.node.unit m)
+          (x.improves.reached fell).agrees k (omega (arith, d.next, d.inside)) (d.order.each k ∙ lt-ltb k at.visit.node.unit m)
 
       down : Descending (problem_of ws) (entry step.state.best) held_cost (held_unit + 1)
       unfolding HeldDue held_cost held_unit
       down =
-          lowering_found (problem_of ws) (entry at.state.best) d.cost d.j (entry step.state.best) (entry at.node.starts d.j)
+          lowering_found (problem_of ws) (entry at.visit.state.best) d.cost d.j (entry step.state.best) (entry at.visit.node.starts d.j)
           step.state.limit.0 (fair ws f.passed)
           (λ k m. sym (d.agrees k m) ∙ sym (plan_has k (omega (arith, d.next)))) (plan_has d.j (omega (arith, d.next)))
           (x.improves.reached fell).plan_at (omega (arith, fell, d.limit_is)) d.lowering
@@ -194,7 +193,7 @@ module _ (ws : List ℕ) (l : Layout) (us rows ys : List ℕ) (at : Visit) (w me
           stands = d.opened.stands;
           tallied = d.opened.tallied;
           small = rw limit_is d.opened.small;
-          held = held_carried (problem_of ws) w w' at.state.used r.state.used d.opened.held carried;
+          held = held_carried (problem_of ws) w w' at.visit.state.used r.state.used d.opened.held carried;
         });
         unit = rw is.node_is (omega (arith, d.next, d.inside));
         follows = record {
@@ -207,36 +206,36 @@ module _ (ws : List ℕ) (l : Layout) (us rows ys : List ℕ) (at : Visit) (w me
       }
 
     -- no plan with them
-    module _ (so : r.next ≡ true) where
+    module _ (so : r.ending ≡ NextStart) where
       state_same : r.state ≡ step.state
       state_same = told.same so
 
-      stays : at.state.limit.0 ≤ step.state.limit.0
+      stays : at.visit.state.limit.0 ≤ step.state.limit.0
       stays = omega (arith, told.none so)
 
-      plan_same : entry step.state.best ≡ entry at.state.best
+      plan_same : entry step.state.best ≡ entry at.visit.state.best
       plan_same = x.improves.kept stays
 
-      num_same : step.state.limit.0 ≡ at.state.limit.0
+      num_same : step.state.limit.0 ≡ at.visit.state.limit.0
       num_same = omega (arith, stays, x.improves.falls)
 
-      closes : (c : ℕ) → at.state.limit.0 ≡ c + 1 → (k : Walked) → step.walked ≡ k → Unspent k
-          → Lowering (problem_of ws) (entry at.state.best) c held_unit (entry at.node.starts held_unit + 1)
+      closes : (c : ℕ) → at.visit.state.limit.0 ≡ c + 1 → (k : Walked) → step.walked ≡ k → Unspent k
+          → Lowering (problem_of ws) (entry at.visit.state.best) c held_unit (entry at.visit.node.starts held_unit + 1)
       unfolding HeldDue held_unit
       closes c e (Spent m) q u = absurd u
       closes c e (Dead b) q u =
           let z : c ≡ d.cost = omega (arith, e, d.limit_is) in
-          let h : Blames (problem_of ws) (has at.node.placed) (entry at.node.starts) step.state.limit.0 b
-          = subst (Says (problem_of ws) (has at.node.placed) (entry at.node.starts) step.state.limit.0) q x.says in
-          lowering_next (problem_of ws) (entry at.state.best) c d.j at.node.starts b d.agrees
-          (λ k g. omega (arith, ltb-true k at.node.unit (sym (d.order.each k) ∙ h.within k g), d.next))
-          (closed_more (problem_of ws) (has b) (has b) (entry at.node.starts) step.state.limit.0 (c + 1) (λ i m g. g) (omega (arith, num_same, e)) h.closed)
+          let h : Blames (problem_of ws) (has at.visit.node.placed) (entry at.visit.node.starts) step.state.limit.0 b
+          = subst (Says (problem_of ws) (has at.visit.node.placed) (entry at.visit.node.starts) step.state.limit.0) q x.says in
+          lowering_next (problem_of ws) (entry at.visit.state.best) c d.j at.visit.node.starts b d.agrees
+          (λ k g. omega (arith, ltb-true k at.visit.node.unit (sym (d.order.each k) ∙ h.within k g), d.next))
+          (closed_more (problem_of ws) (has b) (has b) (entry at.visit.node.starts) step.state.limit.0 (c + 1) (λ i m g. g) (omega (arith, num_same, e)) h.closed)
           (rw z d.lowering)
 
-      failed : Failed (problem_of ws) (at.node.unit - 1) (entry at.node.starts (at.node.unit - 1)) at.state r.state
+      failed : Failed (problem_of ws) (at.visit.node.unit - 1) (entry at.visit.node.starts (at.visit.node.unit - 1)) at.visit.state r.state
       unfolding HeldDue held_unit
       failed =
-          let unit_is : at.node.unit - 1 ≡ d.j = omega (arith, d.next) in
+          let unit_is : at.visit.node.unit - 1 ≡ d.j = omega (arith, d.next) in
           rw unit_is (record {
             best_is = ap (λ (s : State). entry s.best) state_same ∙ plan_same;
             limit_is = ap (λ (s : State). s.limit.0) state_same ∙ num_same;

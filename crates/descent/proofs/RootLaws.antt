@@ -1,8 +1,7 @@
 -- The whole descent: it begins with no unit placed, and ends with the earliest plan.
 -- Assumes nothing.
 use Prim.Native.Nat.{ℕ, ◌+◌}
-use mathlib.Core.Path.{◌≡◌, sym, ◌∙◌, ap, subst}
-use mathlib.Core.Bool.{false}
+use mathlib.Core.Path.{◌≡◌, refl, sym, ◌∙◌, ap, subst}
 use mathlib.Core.List.{List}
 use native.Mathlib.Omega.{arith}
 use lib.ListN.{replicate}
@@ -14,19 +13,18 @@ use Rattle.sums.proofs.NumSetLaws.{zero_has}
 use Rattle.model.specs.declared.Layout.{Layout}
 use Rattle.model.specs.Words.{problem_of}
 use Rattle.instance.specs.declared.Euro.{Euro}
-use Rattle.bound.specs.declared.Trial.{Trial}
-use Rattle.bound.specs.declared.Trial.TheVariants.{Holds}
+use Rattle.std.proofs.Common.{Result, Ok}
 use Rattle.bound.specs.Tests.{AllStand, RootValues, Rooted, RootDue}
 use Rattle.bound.proofs.RowLaws.{rows_none}
 use Rattle.state.specs.declared.State.{State}
 use Rattle.state.specs.State.{limited_to}
-use Rattle.walk.specs.Walk.{Carried}
+use Rattle.walk.specs.Walk.{AtRoot, Carried}
 use Rattle.walk.proofs.StateLaws.{carried_same}
 use Rattle.probe.specs.declared.Visit.{Visit}
-use Rattle.probe.specs.Probe.{AtRoot}
 use Rattle.descent.specs.declared.Descent.{Descent}
+use Rattle.descent.specs.declared.Ending.TheVariants.{Spent}
 use Rattle.descent.specs.Descent.{UnitDue, UnitDone, DescentDue, Descended}
-use Rattle.descent.proofs.DescentLaws.{descending_start}
+use Rattle.descent.proofs.DescentLaws.{earliest_spent, descending_start}
 
 module _ (ws : List ℕ) (l : Layout) (us w memo : List ℕ) (st : State) (d : DescentDue ws l us st w memo) (limit : Euro) (one : limit.0 ≡ st.limit.0 + 1) where
   -- what the root asks
@@ -35,26 +33,26 @@ module _ (ws : List ℕ) (l : Layout) (us w memo : List ℕ) (st : State) (d : D
 
   module _ (s : State) (is : s ≡ limited_to st limit) where
     -- the root says that nothing is there: the descent is given up
-    pub descent_out : (r : Descent) → r.state ≡ s → r.whole ≡ false → Descended (problem_of ws) w w st r
-    descent_out r e off = record {
-      carried = rw (e ∙ is) (carried_same (problem_of ws) w st.used);
-      earliest = λ z. true_false (sym z ∙ off);
-    }
+    pub descent_out : (r : Descent) → r ≡ record { state = s; ending = Spent } → Descended (problem_of ws) w w st r
+    descent_out r e = subst (Descended (problem_of ws) w w st) (sym e) (record {
+      carried = rw is (carried_same (problem_of ws) w st.used);
+      earliest = λ z. earliest_spent Spent z refl;
+    })
 
     -- no unit is placed
-    pub descent_begins : (v : Trial) (c : Euro) (rows ys : List ℕ) (at : Visit) → Rooted (problem_of ws) us limit.0 v → v ≡ Holds c → rows ≡ replicate 52 0
-        → RootValues us ys → AtRoot c.0 s at → UnitDue ws l us rows ys at w memo
+    pub descent_begins : (v : Result Euro ℕ) (c : Euro) (rows ys : List ℕ) (at : Visit) → Rooted (problem_of ws) us limit.0 v → v ≡ Ok c → rows ≡ replicate 52 0
+        → RootValues us ys → AtRoot c.0 s at.visit → UnitDue ws l us rows ys at w memo
     unfolding UnitDue
     descent_begins v c rows ys at said e none fronts root =
         let stands : AllStand (problem_of ws) us ys c.0 = subst (Rooted (problem_of ws) us limit.0) e said ys fronts in
-        let state_is : at.state ≡ limited_to st limit = root.same ∙ is in
+        let state_is : at.visit.state ≡ limited_to st limit = root.same ∙ is in
         record {
           walking = d.walking;
           opened = record {
             within = λ i h. true_false (sym h ∙ (ap (λ (n : ℕ). has n i) root.nobody ∙ zero_has i));
             long = root.long;
-            stands = rw (root.nobody, root.bound_is) (stands.each (entry at.node.starts));
-            tallied = rw root.nobody (rows_none (problem_of ws) (entry at.node.starts) rows none);
+            stands = rw (root.nobody, root.bound_is) (stands.each (entry at.visit.node.starts));
+            tallied = rw root.nobody (rows_none (problem_of ws) (entry at.visit.node.starts) rows none);
             small = rw state_is (omega (arith, d.small));
             held = rw state_is d.held;
           };
@@ -69,10 +67,10 @@ module _ (ws : List ℕ) (l : Layout) (us w memo : List ℕ) (st : State) (d : D
         }
 
     -- it has ended
-    pub descent_ends : (c : ℕ) (at : Visit) (w' : List ℕ) (r : Descent) → AtRoot c s at → UnitDone (problem_of ws) w w' at r → Descended (problem_of ws) w w' st r
+    pub descent_ends : (c : ℕ) (at : Visit) (w' : List ℕ) (r : Descent) → AtRoot c s at.visit → UnitDone (problem_of ws) w w' at r → Descended (problem_of ws) w w' st r
     unfolding UnitDone
     descent_ends c at w' r root done =
-        let state_is : at.state ≡ limited_to st limit = root.same ∙ is in
+        let state_is : at.visit.state ≡ limited_to st limit = root.same ∙ is in
         record {
           carried = subst (λ (x : State). Carried (problem_of ws) w x.used w' r.state.used) state_is done.lowered.carried;
           earliest = λ z. done.lowered.earliest z st.limit.0 (ap (λ (x : State). x.limit.0) state_is ∙ one);

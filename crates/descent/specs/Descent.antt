@@ -1,6 +1,6 @@
 -- The descent: from some plan of the least cost c, unit by unit, to the earliest. Limits are exclusive: at c + 1 what costs c is wanted.
 -- Assumes nothing.
-use Rattle.std.specs.Prelude.{ℕ, ◌+◌, ◌-◌, ◌≤◌, ◌<◌, ◌≡◌, Bool, true, false, List}
+use Rattle.std.specs.Prelude.{ℕ, ◌+◌, ◌-◌, ◌≤◌, ◌<◌, ◌≡◌, Bool, true, List}
 use Rattle.sums.specs.Table.{entry}
 use Rattle.model.specs.declared.Layout.{Layout}
 use Rattle.model.specs.Problem.{Problem}
@@ -18,6 +18,7 @@ use Rattle.walk.specs.Walk.{TableTrue, Carried, Walking, AllSettled, InOrder, Un
 use Rattle.probe.specs.declared.Visit.{Visit}
 use Rattle.probe.specs.Probe.{PlanAt, TriedTo, Opened, Startable}
 use Rattle.descent.specs.declared.Descent.{Descent}
+use Rattle.descent.specs.declared.Ending.TheVariants.{Earliest, NextStart}
 
 -- ---- the propositions
 
@@ -44,10 +45,10 @@ pub record Follows (p : Problem) (node : Node) (st : State) : Type 0 where
 -- before a unit's starts are tried
 pub record UnitNeeds (ws : List ℕ) (l : Layout) (us rows ys : List ℕ) (at : Visit) (w memo : List ℕ) : Type 0 where
   pub walking : Walking ws l us memo
-  pub opened : Opened (problem_of ws) w us rows ys at.node at.state
-  pub unit : at.node.unit ≤ (problem_of ws).units
-  pub follows : Follows (problem_of ws) at.node at.state
-  pub descending : Descending (problem_of ws) (entry at.state.best) follows.cost at.node.unit
+  pub opened : Opened (problem_of ws) w us rows ys at.visit.node at.visit.state
+  pub unit : at.visit.node.unit ≤ (problem_of ws).units
+  pub follows : Follows (problem_of ws) at.visit.node at.visit.state
+  pub descending : Descending (problem_of ws) (entry at.visit.state.best) follows.cost at.visit.node.unit
 
 unfoldable pub UnitDue : (ws : List ℕ) → Layout → (us rows ys : List ℕ) → Visit → (w memo : List ℕ) → Type 0
 UnitDue ws l us rows ys at w memo = UnitNeeds ws l us rows ys at w memo
@@ -55,9 +56,9 @@ UnitDue ws l us rows ys at w memo = UnitNeeds ws l us rows ys at w memo
 -- before one of them is tried: those below it have failed
 pub record TryNeeds (ws : List ℕ) (l : Layout) (us rows ys : List ℕ) (at : Visit) (w memo : List ℕ) : Type 0 where
   pub walking : Walking ws l us memo
-  pub startable : Startable (problem_of ws) w us rows ys at.node at.state
-  pub follows : Follows (problem_of ws) at.node at.state
-  pub lowering : Lowering (problem_of ws) (entry at.state.best) follows.cost at.node.unit (entry at.node.starts at.node.unit)
+  pub startable : Startable (problem_of ws) w us rows ys at.visit.node at.visit.state
+  pub follows : Follows (problem_of ws) at.visit.node at.visit.state
+  pub lowering : Lowering (problem_of ws) (entry at.visit.state.best) follows.cost at.visit.node.unit (entry at.visit.node.starts at.visit.node.unit)
 
 unfoldable pub TryDue : (ws : List ℕ) → Layout → (us rows ys : List ℕ) → Visit → (w memo : List ℕ) → Type 0
 TryDue ws l us rows ys at w memo = TryNeeds ws l us rows ys at w memo
@@ -65,15 +66,15 @@ TryDue ws l us rows ys at w memo = TryNeeds ws l us rows ys at w memo
 -- it holds: unit j is placed at it, and the node's own is the next
 pub record HeldNeeds (ws : List ℕ) (l : Layout) (us rows ys : List ℕ) (at : Visit) (w memo : List ℕ) : Type 0 where
   pub walking : Walking ws l us memo
-  pub opened : Opened (problem_of ws) w us rows ys at.node at.state
+  pub opened : Opened (problem_of ws) w us rows ys at.visit.node at.visit.state
   pub j : ℕ
-  pub next : at.node.unit ≡ j + 1
+  pub next : at.visit.node.unit ≡ j + 1
   pub inside : j < (problem_of ws).units
-  pub order : InOrder at.node
-  pub agrees : Same j (entry at.node.starts) (entry at.state.best)
+  pub order : InOrder at.visit.node
+  pub agrees : Same j (entry at.visit.node.starts) (entry at.visit.state.best)
   pub cost : ℕ
-  pub limit_is : at.state.limit.0 ≡ cost + 1
-  pub lowering : Lowering (problem_of ws) (entry at.state.best) cost j (entry at.node.starts j)
+  pub limit_is : at.visit.state.limit.0 ≡ cost + 1
+  pub lowering : Lowering (problem_of ws) (entry at.visit.state.best) cost j (entry at.visit.node.starts j)
 
 unfoldable pub HeldDue : (ws : List ℕ) → Layout → (us rows ys : List ℕ) → Visit → (w memo : List ℕ) → Type 0
 HeldDue ws l us rows ys at w memo = HeldNeeds ws l us rows ys at w memo
@@ -87,17 +88,16 @@ pub record Keeps (node : Node) (best : List ℕ) (r : Bool) : Type 0 where
 -- what a probe for one plan under a limit has told
 pub record Told (step : Step) (limit : Euro) (r : Descent) : Type 0 where
   pub used_is : r.state.used ≡ step.state.used
-  pub less : r.whole ≡ true → step.state.limit.0 < limit.0
-  pub plan : r.whole ≡ true → r.state ≡ limited_to step.state limit
-  pub unspent : r.next ≡ true → Unspent step.walked
-  pub none : r.next ≡ true → limit.0 ≤ step.state.limit.0
-  pub same : r.next ≡ true → r.state ≡ step.state
-  pub one : r.whole ≡ true → r.next ≡ false
+  pub less : r.ending ≡ Earliest → step.state.limit.0 < limit.0
+  pub plan : r.ending ≡ Earliest → r.state ≡ limited_to step.state limit
+  pub unspent : r.ending ≡ NextStart → Unspent step.walked
+  pub none : r.ending ≡ NextStart → limit.0 ≤ step.state.limit.0
+  pub same : r.ending ≡ NextStart → r.state ≡ step.state
 
 -- the same visit in another state
 pub record IsAt (at : Visit) (st : State) (r : Visit) : Type 0 where
-  pub node_is : r.node ≡ at.node
-  pub state_is : r.state ≡ st
+  pub node_is : r.visit.node ≡ at.visit.node
+  pub state_is : r.visit.state ≡ st
 
 -- a state after another in which a start has failed: the plan and the limit are as they were, and a start more has failed
 pub record Failed (p : Problem) (j v : ℕ) (st r : State) : Type 0 where
@@ -108,33 +108,33 @@ pub record Failed (p : Problem) (j v : ℕ) (st r : State) : Type 0 where
 -- the descent came back from unit j: its plan is the earliest of all
 pub record Lowered (p : Problem) (w w' : List ℕ) (st : State) (r : Descent) : Type 0 where
   pub carried : Carried p w st.used w' r.state.used
-  pub earliest : r.whole ≡ true → (c : ℕ) → st.limit.0 ≡ c + 1 → Descending p (entry r.state.best) c p.units
+  pub earliest : r.ending ≡ Earliest → (c : ℕ) → st.limit.0 ≡ c + 1 → Descending p (entry r.state.best) c p.units
 
 -- or a start of it has failed
 pub record Passed (p : Problem) (w w' : List ℕ) (j v : ℕ) (st : State) (r : Descent) : Type 0 where
   pub lowered : Lowered p w w' st r
-  pub fails : r.next ≡ true → Failed p j v st r.state
+  pub fails : r.ending ≡ NextStart → Failed p j v st r.state
 
 -- no start of unit j is left to be tried
 pub record Ended (p : Problem) (w w' : List ℕ) (st : State) (r : Descent) : Type 0 where
   pub lowered : Lowered p w w' st r
-  pub over : r.next ≡ false
+  pub over : r.ending ≡ NextStart → ⊥
 
 unfoldable pub UnitDone : Problem → (w w' : List ℕ) → Visit → Descent → Type 0
-UnitDone p w w' at r = Ended p w w' at.state r
+UnitDone p w w' at r = Ended p w w' at.visit.state r
 
 unfoldable pub TryDone : Problem → (w w' : List ℕ) → Visit → Descent → Type 0
-TryDone p w w' at r = Passed p w w' at.node.unit (entry at.node.starts at.node.unit) at.state r
+TryDone p w w' at r = Passed p w w' at.visit.node.unit (entry at.visit.node.starts at.visit.node.unit) at.visit.state r
 
 unfoldable pub HeldDone : Problem → (w w' : List ℕ) → Visit → Descent → Type 0
-HeldDone p w w' at r = Passed p w w' (at.node.unit - 1) (entry at.node.starts (at.node.unit - 1)) at.state r
+HeldDone p w w' at r = Passed p w w' (at.visit.node.unit - 1) (entry at.visit.node.starts (at.visit.node.unit - 1)) at.visit.state r
 
 -- a plan was looked for: where there is one the next unit's starts are to be tried
 pub record Finding (ws : List ℕ) (l : Layout) (us rows ys : List ℕ) (at : Visit) (w w' memo : List ℕ) (r : Descent) : Type 0 where
-  pub carried : Carried (problem_of ws) w at.state.used w' r.state.used
-  pub limit_is : r.whole ≡ true → r.state.limit.0 ≡ at.state.limit.0
-  pub unit : r.whole ≡ true → (below : Visit) → IsAt at r.state below → UnitNeeds ws l us rows ys below w' memo
-  pub fails : r.next ≡ true → Failed (problem_of ws) (at.node.unit - 1) (entry at.node.starts (at.node.unit - 1)) at.state r.state
+  pub carried : Carried (problem_of ws) w at.visit.state.used w' r.state.used
+  pub limit_is : r.ending ≡ Earliest → r.state.limit.0 ≡ at.visit.state.limit.0
+  pub unit : r.ending ≡ Earliest → (below : Visit) → IsAt at r.state below → UnitNeeds ws l us rows ys below w' memo
+  pub fails : r.ending ≡ NextStart → Failed (problem_of ws) (at.visit.node.unit - 1) (entry at.visit.node.starts (at.visit.node.unit - 1)) at.visit.state r.state
 
 unfoldable pub Found : (ws : List ℕ) → Layout → (us rows ys : List ℕ) → Visit → (w w' memo : List ℕ) → Descent → Type 0
 Found ws l us rows ys at w w' memo r = Finding ws l us rows ys at w w' memo r
@@ -152,4 +152,4 @@ pub record DescentDue (ws : List ℕ) (l : Layout) (us : List ℕ) (st : State) 
 -- its earliest was found
 pub record Descended (p : Problem) (w w' : List ℕ) (st : State) (r : Descent) : Type 0 where
   pub carried : Carried p w st.used w' r.state.used
-  pub earliest : r.whole ≡ true → Descending p (entry r.state.best) st.limit.0 p.units
+  pub earliest : r.ending ≡ Earliest → Descending p (entry r.state.best) st.limit.0 p.units

@@ -3,14 +3,13 @@
 // Units count from 0, starts from 1. Start at `descend`.
 #![tactic(auto)]
 
-ghost use Rattle.std.specs.Prelude.{◌≡◌, true, false, ◌-◌, ◌<◌, ◌≤◌};
+ghost use Rattle.std.specs.Prelude.{◌≡◌, ◌<◌, ◌≤◌};
 ghost use Rattle.sums.specs.Table.{entry};
 ghost use Rattle.model.specs.Words.{problem_of};
 ghost use Rattle.tables.specs.Tables.{price_in};
 ghost use Rattle.relaxation.specs.Relaxed.{MemoTrue};
 ghost use Rattle.descent.specs.Descent.{DescentDue, Descended, UnitDue, TryDue, HeldDue, Told, Found, UnitDone, TryDone, HeldDone, IsAt, Keeps};
 
-use bound::Trial;
 use dual::Node;
 use instance::Euro;
 use model::Layout;
@@ -18,46 +17,26 @@ use probe::Visit;
 use state::{State, Step, Walked};
 use tables::TABLES;
 
-// A state, and how the descent came to it: the plan of the state is the earliest with the starts placed; or the next start is to be tried; or the
-// tries are spent.
+// How a descent comes back: its plan is the earliest with the starts placed; or the next start is to be tried; or the tries are spent.
+#[derive(Clone, Copy, Debug, PartialEq, Eq)]
+pub enum Ending {
+    Earliest,
+    NextStart,
+    Spent,
+}
+
+// A state, and how the descent came to it.
 #[derive(Clone, Copy)]
 pub struct Descent {
     pub state: State,
-    pub whole: bool,
-    pub next: bool,
+    pub ending: Ending,
 }
 
-// The plan is the earliest.
-fn whole(state: State) -> Descent
-    ensures { (result.state ≡ state) × (result.whole ≡ true) × (result.next ≡ false) }
+// A descent that ends so.
+fn ended(state: State, ending: Ending) -> Descent
+    ensures { result ≡ record { state = state; ending = ending } }
 {
-    Descent {
-        state,
-        whole: true,
-        next: false,
-    }
-}
-
-// The next start is to be tried.
-fn next_start(state: State) -> Descent
-    ensures { (result.state ≡ state) × (result.whole ≡ false) × (result.next ≡ true) }
-{
-    Descent {
-        state,
-        whole: false,
-        next: true,
-    }
-}
-
-// The tries are spent.
-fn given_up(state: State) -> Descent
-    ensures { (result.state ≡ state) × (result.whole ≡ false) × (result.next ≡ false) }
-{
-    Descent {
-        state,
-        whole: false,
-        next: false,
-    }
+    Descent { state, ending }
 }
 
 // ---- a start that holds
@@ -80,13 +59,12 @@ fn tell(step: Step, limit: Euro) -> Descent
     ensures { Told step limit result }
 {
     let st = step.state;
-    let w = step.walked;
     if st.limit.0 < limit.0 {
-        return whole(state::limited(st, limit));
+        return ended(state::limited(st, limit), Ending::Earliest);
     }
-    match w {
-        Walked::Spent(_) => given_up(st),
-        Walked::Dead(_) => next_start(st),
+    match step.walked {
+        Walked::Spent(_) => ended(st, Ending::Spent),
+        Walked::Dead(_) => ended(st, Ending::NextStart),
     }
 }
 
@@ -105,27 +83,21 @@ fn find_plan(
     ensures answer { Found words.now l tables.now rows.now values.now at table.old table.new memo.new result }
     ensures recalls { MemoTrue (problem_of words.now) (price_in tables.now) memo.new }
 {
-    let node = at.node;
-    let st = at.state;
-    let best = st.best;
-    let limit = st.limit;
-    if keeps_last(node, best) {
-        return whole(st);
+    let st = at.visit.state;
+    if keeps_last(at.visit.node, st.best) {
+        return ended(st, Ending::Earliest);
     }
     let step = probe::place(words, l, tables, rows, values, at, table, memo);
-    tell(step, limit)
+    tell(step, st.limit)
 }
 
 // The same visit in another state.
 fn in_state(at: Visit, state: State) -> Visit
     ensures { IsAt at state result }
 {
-    let node = at.node;
     Visit {
-        node,
-        state,
-        order: at.order,
-        first: at.first,
+        visit: walk::Visit { state, ..at.visit },
+        ..at
     }
 }
 
@@ -148,11 +120,13 @@ fn lower_held(
     ensures recalls { MemoTrue (problem_of words.now) (price_in tables.now) memo.new }
 {
     let found = find_plan(words, l, tables, rows, values, at, table, memo);
-    if !found.whole {
-        return found;
+    match found.ending {
+        Ending::Earliest => {
+            let below = in_state(at, found.state);
+            lower(words, l, tables, rows, values, below, table, memo)
+        }
+        _ => found,
     }
-    let below = in_state(at, found.state);
-    lower(words, l, tables, rows, values, below, table, memo)
 }
 
 // Tries a start of the node's unit.
@@ -171,20 +145,16 @@ fn lower_start(
     ensures answer { TryDone (problem_of words.now) table.old table.new at result }
     ensures recalls { MemoTrue (problem_of words.now) (price_in tables.now) memo.new }
 {
-    let st = at.state;
-    let node = at.node;
-    let starts = node.starts;
+    let st = at.visit.state;
+    let node = at.visit.node;
     if st.budget <= st.tries {
-        return given_up(st);
+        return ended(st, Ending::Spent);
     }
     let mut next = *values;
-    let tried = probe::judge_start(words, l, tables, rows, at, &table[..], &mut next, memo);
-    let below = tried.at;
-    let v = tried.trial;
-    match v {
-        Trial::Fails(_) => next_start(below.state),
-        Trial::Holds(_) => {
-            let out = bound::placed_rows(words, l, rows, starts, node.unit);
+    match probe::judge_start(words, l, tables, rows, at, &table[..], &mut next, memo) {
+        Err(_) => ended(state::tried(st), Ending::NextStart),
+        Ok(below) => {
+            let out = bound::placed_rows(words, l, rows, node.starts, node.unit);
             lower_held(words, l, tables, &out, &next, below, table, memo)
         }
     }
@@ -206,26 +176,22 @@ fn lower(
     ensures answer { UnitDone (problem_of words.now) table.old table.new at result }
     ensures recalls { MemoTrue (problem_of words.now) (price_in tables.now) memo.new }
 {
-    let unit = at.node.unit;
-    let mut s = at.state;
+    let unit = at.visit.node.unit;
+    let mut s = at.visit.state;
     if l.units <= unit {
-        return whole(s);
+        return ended(s, Ending::Earliest);
     }
     let range = overhaul::starts_of(words, l, unit);
-    let last = range.last;
-    let mut v = range.first;
     // Each time round, no schedule with the starts before this unit's and a start of it below v costs as little as the plan.
-    while v <= last {
+    for v in range.first..range.last + 1 {
         let below = probe::with_start(at, unit, v, s);
         let r = lower_start(words, l, tables, rows, values, below, table, memo);
-        if !r.next {
+        let Ending::NextStart = r.ending else {
             return r;
-        }
-        let q = r.state;
-        s = q;
-        v += 1;
+        };
+        s = r.state;
     }
-    given_up(s)
+    ended(s, Ending::Spent)
 }
 
 // ---- the whole descent
@@ -244,13 +210,12 @@ pub fn descend(
     ensures answer { Descended (problem_of words.now) table.old table.new st result }
     ensures recalls { MemoTrue (problem_of words.now) (price_in tables.now) memo.new }
 {
-    let least = st.limit;
-    let limit = least.plus(Euro(1));
+    let limit = st.limit.plus(Euro(1));
     let s = state::limited(st, limit);
     let v = bound::root(words, l, tables, limit);
     match v {
-        Trial::Fails(_) => given_up(s),
-        Trial::Holds(bound) => {
+        Err(_) => ended(s, Ending::Spent),
+        Ok(bound) => {
             let rows = bound::no_rows();
             let values = bound::first_values(tables);
             let at = probe::root_visit(bound, s, true);

@@ -9,8 +9,9 @@ use native.Mathlib.Omega.{arith}
 use lib.ListN.{length, set, length-append, length-set}
 use lib.Dec.{leb}
 use borrow.Author.Tests.{leb-true, le-leb, eq-eqb, ne_eqb}
-use Rattle.sums.specs.Sum.{sum_to, counts_one}
-use Rattle.sums.specs.NumSet.{has, only_in}
+use Rattle.std.proofs.Common.{count_by}
+use Rattle.std.specs.List.{range_with_len}
+use Rattle.sums.specs.NumSet.{has}
 use Rattle.sums.specs.Table.{entry}
 use Rattle.sums.proofs.LogicLaws.{and_left, and_right, not_so}
 use Rattle.model.specs.Words.{◌∶◌}
@@ -168,7 +169,7 @@ pub no_bound : (lent used limit : ℕ) (cs : List Choice) → limit ≡ 0 → no
 no_bound lent used limit cs e = not_so (notable lent used limit cs) (λ t. absurd (omega (arith, notable_has lent used limit cs t)))
 
 -- the choices, as many as the code counts
-module _ (xs : List ℕ) (lent used k b limit n : ℕ) (is : n ≡ sum_to k (only_in (has b) counts_one)) where
+module _ (xs : List ℕ) (lent used k b limit n : ℕ) (is : n ≡ count_by (has b) (range_with_len 0 k)) where
   size_is : n ≡ length (choices_of (entry xs) (has b) k)
   size_is = is ∙ sym (choices_count (entry xs) (has b) k)
 

@@ -7,30 +7,25 @@ use mathlib.Core.List.{List}
 use native.Mathlib.Decide.{dec_lt, ℕ_discrete}
 use native.Mathlib.Omega.{arith}
 use lib.ListN.{length, get_or, get_or-eq_default}
+use Rattle.std.proofs.Common.{Option, Some, None, IfSome}
 use borrow.Author.Count.{below_more}
 use Rattle.sums.specs.NumSet.{NumSet, has, with}
 use Rattle.sums.specs.Table.{entry}
 use Rattle.sums.proofs.LogicLaws.{true_false}
 use Rattle.sums.proofs.NumSetLaws.{zero_has, with_at, with_old, with_else}
 use Rattle.model.specs.Words.{kind_of, value_of}
-use Rattle.nogood.specs.declared.Scan.{Scan}
-use Rattle.nogood.specs.declared.Scan.TheVariants.{Miss, Cut}
-use Rattle.nogood.specs.Recall.{CHOICE_RADIX, Chosen, UnitMet, Choices, Match, Matched, Recall, Recalled}
+use Rattle.nogood.specs.Recall.{CHOICE_RADIX, Chosen, UnitMet, Choices, Match, Recalled}
 
 -- ---- a choice
 
--- no unit
-pub unit_none : (xs : List ℕ) (a : NumSet) (x : ℕ) → UnitMet xs a x 0
-unit_none xs a x = record { few = omega arith; placed = λ l. absurd (omega arith); unit = λ l. absurd (omega arith); start = λ l. absurd (omega arith) }
-
 -- a unit placed whose start xs has
-pub unit_some : (xs : List ℕ) (placed x v s : ℕ) (in-set : Bool) → v ≡ value_of x → v / CHOICE_RADIX ≤ 16 → in-set ≡ has placed (v / CHOICE_RADIX - 1)
-    → not in-set ≡ false → s ≡ entry xs (v / CHOICE_RADIX - 1) → s ≡ v % CHOICE_RADIX → UnitMet xs (has placed) x (v / CHOICE_RADIX)
-unit_some xs placed x v s in-set is l m t e f = record {
-  few = l;
-  placed = λ z. sym m ∙ not_off in-set t;
-  unit = λ z. ap (λ (t : ℕ). t / CHOICE_RADIX) is;
-  start = λ z. sym e ∙ f ∙ ap (λ (t : ℕ). t % CHOICE_RADIX) is;
+pub unit_some : (xs : List ℕ) (placed x v u s : ℕ) (in-set : Bool) → v ≡ value_of x → u + 1 ≡ v / CHOICE_RADIX → u ≤ 15 → in-set ≡ has placed u
+    → not in-set ≡ false → s ≡ entry xs u → s ≡ v % CHOICE_RADIX → UnitMet xs (has placed) x u
+unit_some xs placed x v u s in-set is here l m t e f = record {
+  few = omega arith;
+  placed = sym m ∙ not_off in-set t;
+  unit = here ∙ ap (λ (t : ℕ). t / CHOICE_RADIX) is;
+  start = sym e ∙ f ∙ ap (λ (t : ℕ). t % CHOICE_RADIX) is;
 }
   where
     not_off : (b : Bool) → not b ≡ false → b ≡ true
@@ -56,28 +51,31 @@ reading_start w xs a i l = record {
 }
 
 -- one more, which xs has
-pub reading_next : (w xs : List ℕ) (a : NumSet) (i b r m u : ℕ) → Reading w xs a i b m → m < length w → UnitMet xs a (get_or w m 0) u → 1 ≤ u
-    → ((j : ℕ) → has r j ≡ with (has b) (u - 1) j) → Reading w xs a i r (m + 1)
-reading_next w xs a i b r m u h l met low joined = record {
+pub reading_next : (w xs : List ℕ) (a : NumSet) (i b r m u : ℕ) → Reading w xs a i b m → m < length w → UnitMet xs a (get_or w m 0) u
+    → ((j : ℕ) → has r j ≡ with (has b) u j) → Reading w xs a i r (m + 1)
+reading_next w xs a i b r m u h l met joined = record {
   after = let x = h.after in omega arith;
   upto = omega arith;
   chosen = λ starts on q x y.
       below_more (λ n. i < n → Chosen starts (get_or w n 0)) m (λ n z g. h.chosen starts (λ j e. on j (old j e)) n g z) (λ g. here starts on) q y x;
-  within = λ q x. inside q x (ℕ_discrete q (u - 1));
+  within = λ q x. inside q x (ℕ_discrete q u);
 }
   where
+    unit : u ≡ value_of (get_or w m 0) / CHOICE_RADIX - 1
+    unit = let x = met.unit in omega arith
+
     old : (j : ℕ) → has b j ≡ true → has r j ≡ true
-    old j x = joined j ∙ with_old (has b) (u - 1) j x
+    old j x = joined j ∙ with_old (has b) u j x
 
-    new : has r (u - 1) ≡ true
-    new = joined (u - 1) ∙ with_at (has b) (u - 1)
+    new : has r u ≡ true
+    new = joined u ∙ with_at (has b) u
 
-    inside : (q : ℕ) → has r q ≡ true → Dec (q ≡ u - 1) → a q ≡ true
-    inside q x (yes z) = ap a z ∙ met.placed low
-    inside q x (no z) = h.within q (sym (joined q ∙ with_else (has b) (u - 1) q z) ∙ x)
+    inside : (q : ℕ) → has r q ≡ true → Dec (q ≡ u) → a q ≡ true
+    inside q x (yes z) = ap a z ∙ met.placed
+    inside q x (no z) = h.within q (sym (joined q ∙ with_else (has b) u q z) ∙ x)
 
     here : (starts : ℕ → ℕ) → ((j : ℕ) → has r j ≡ true → starts j ≡ entry xs j) → Chosen starts (get_or w m 0)
-    here starts on = subst (λ (t : ℕ). starts (t - 1) ≡ value_of (get_or w m 0) % CHOICE_RADIX) (met.unit low) (on (u - 1) new ∙ met.start low)
+    here starts on = subst (λ (t : ℕ). starts t ≡ value_of (get_or w m 0) % CHOICE_RADIX) unit (on u new ∙ met.start)
 
 reading_stop : (w xs : List ℕ) (a : NumSet) (i b m : ℕ) → Reading w xs a i b m → (kind_of (get_or w m 0) ≡ 14 → ⊥) → Match w xs a i b
 reading_stop w xs a i b m h stop = record {
@@ -102,12 +100,8 @@ reading_out w xs a i b m h l = reading_stop w xs a i b m h (λ e. absurd (omega 
 -- ---- the nogood at a place
 
 -- its bound covers the limit, and whoever was met has its choices
-pub recalled : (w xs : List ℕ) (a : NumSet) (limit i kind v : ℕ) (h : Scan) → kind ≡ kind_of (get_or w i 0) → kind ≡ 13 → v ≡ value_of (get_or w i 0) → limit ≤ v + 1
-    → i < length w → Matched w xs a i h → Recalled w xs a limit h
-recalled w xs a limit i kind v Miss e f g c l m = tt
-recalled w xs a limit i kind v (Cut b) e f g c l m =
+pub recalled : (w xs : List ℕ) (a : NumSet) (limit i kind v : ℕ) (h : Option ℕ) → kind ≡ kind_of (get_or w i 0) → kind ≡ 13 → v ≡ value_of (get_or w i 0) → limit ≤ v + 1
+    → i < length w → IfSome h (Match w xs a i) → Recalled w xs a limit h
+recalled w xs a limit i kind v None e f g c l m = tt
+recalled w xs a limit i kind v (Some b) e f g c l m =
     record { at = i; below = l; bound = sym e ∙ f; covers = subst (λ (x : ℕ). limit ≤ x + 1) g c; match = m }
-
--- the answer is told as it came
-pub told : (w xs : List ℕ) (a : NumSet) (limit b : ℕ) (h : Scan) → Recalled w xs a limit h → h ≡ Cut b → Recall w xs a limit b
-told w xs a limit b h r e = subst (Recalled w xs a limit) e r

@@ -1,11 +1,9 @@
 -- A nogood found in a table by the starts of a walk. Words are read by their places: a bound, and the choices that follow it.
 -- Assumes nothing.
-use Rattle.std.specs.Prelude.{ℕ, ◌+◌, ◌-◌, ◌/◌, ◌%◌, ◌≤◌, ◌<◌, ◌≡◌, true, List, length, get_or}
+use Rattle.std.specs.Prelude.{ℕ, ◌+◌, ◌-◌, ◌/◌, ◌%◌, ◌≤◌, ◌<◌, ◌≡◌, true, List, length, get_or, Option, IfSome}
 use Rattle.sums.specs.NumSet.{NumSet, has}
 use Rattle.sums.specs.Table.{entry}
 use Rattle.model.specs.Words.{kind_of, value_of}
-use Rattle.nogood.specs.declared.Scan.{Scan}
-use Rattle.nogood.specs.declared.Scan.TheVariants.{Miss, Cut}
 
 -- a choice is unit × CHOICE_RADIX + start, units from 1
 abbrev pub CHOICE_RADIX : ℕ
@@ -15,12 +13,12 @@ CHOICE_RADIX = 64
 abbrev pub Chosen : (ℕ → ℕ) → ℕ → Type 0
 Chosen starts x = starts (value_of x / CHOICE_RADIX - 1) ≡ value_of x % CHOICE_RADIX
 
--- u is the unit, from 1 and one of a, of a choice x that xs has; or 0
+-- u, one of a, is the unit of a choice x that xs has
 pub record UnitMet (xs : List ℕ) (a : NumSet) (x u : ℕ) : Type 0 where
-  pub few : u ≤ 16
-  pub placed : 1 ≤ u → a (u - 1) ≡ true
-  pub unit : 1 ≤ u → u ≡ value_of x / CHOICE_RADIX
-  pub start : 1 ≤ u → entry xs (u - 1) ≡ value_of x % CHOICE_RADIX
+  pub few : u < 16
+  pub placed : a u ≡ true
+  pub unit : u + 1 ≡ value_of x / CHOICE_RADIX
+  pub start : entry xs u ≡ value_of x % CHOICE_RADIX
 
 -- the words after i up to m are choices
 abbrev pub Choices : List ℕ → (i m : ℕ) → Type 0
@@ -43,12 +41,6 @@ pub record Recall (w xs : List ℕ) (a : NumSet) (limit b : ℕ) : Type 0 where
   pub covers : limit ≤ value_of (get_or w at 0) + 1
   pub match : Match w xs a at b
 
--- what is said of one nogood
-abbrev pub Matched : (w xs : List ℕ) (a : NumSet) (i : ℕ) → Scan → Type 0
-Matched w xs a i Miss = Unit {0}
-Matched w xs a i (Cut b) = Match w xs a i b
-
--- and of the table: a nogood may be missed, which costs time and nothing else; one that cuts is there
-abbrev pub Recalled : (w xs : List ℕ) (a : NumSet) (limit : ℕ) → Scan → Type 0
-Recalled w xs a limit Miss = Unit {0}
-Recalled w xs a limit (Cut b) = Recall w xs a limit b
+-- what is said of the table: a nogood may be missed, which costs time and nothing else; one that is told is there
+abbrev pub Recalled : (w xs : List ℕ) (a : NumSet) (limit : ℕ) → Option ℕ → Type 0
+Recalled w xs a limit r = IfSome r (Recall w xs a limit)

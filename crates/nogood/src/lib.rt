@@ -2,22 +2,15 @@
 // Units count from 0, in words from 1; starts count from 1.
 #![tactic(auto)]
 
-ghost use Rattle.std.specs.Prelude.{◌≡◌, ◌+◌, ◌*◌, ◌-◌, ◌<◌, ◌≤◌, length, replicate};
-ghost use Rattle.sums.specs.Sum.{sum_to, counts_one};
-ghost use Rattle.sums.specs.NumSet.{has, only_in};
+ghost use Rattle.std.specs.Prelude.{◌≡◌, ◌+◌, ◌*◌, ◌-◌, ◌<◌, ◌≤◌, length, replicate, IfSome, count_by};
+ghost use Rattle.std.specs.List.{range_with_len};
+ghost use Rattle.sums.specs.NumSet.{has};
 ghost use Rattle.sums.specs.Table.{entry};
 ghost use Rattle.model.specs.Words.{◌∶◌};
 ghost use Rattle.model.specs.Nogood.{MOST_LIMIT, choice_words, nogood_words};
 ghost use Rattle.lent.specs.Splice.{spliced};
 ghost use Rattle.nogood.specs.Noting.{choice_of, choices_of, nogood_for, noted_used, noted, end_used, ended};
-ghost use Rattle.nogood.specs.Recall.{CHOICE_RADIX, UnitMet, Matched, Recalled};
-
-// No nogood that was looked at is met; or one is, by the starts of these units.
-#[derive(Clone, Copy)]
-pub enum Scan {
-    Miss,
-    Cut(u32),
-}
+ghost use Rattle.nogood.specs.Recall.{CHOICE_RADIX, UnitMet, Match, Recalled};
 
 // Empties the table, whatever it held.
 pub fn clear(table: &mut [u32])
@@ -50,27 +43,12 @@ fn start_of(starts: [u8; 16], i: usize) -> usize
     widen_start(starts[i])
 }
 
-// 1 where the set has unit q.
-fn member(b: u32, q: usize) -> usize
-    requires { q < 16 }
-    ensures { (result ≡ only_in (has b) counts_one q) × (result ≤ 1) }
-{
-    if sets::has(b, q) {
-        return 1;
-    }
-    0
-}
-
 // How many units below k the set has.
 fn size(b: u32, k: usize) -> usize
     requires { k ≤ 16 }
-    ensures { (result ≡ sum_to k (only_in (has b) counts_one)) × (result ≤ k) }
+    ensures { result ≡ count_by (has b) (range_with_len 0 k) }
 {
-    let mut sum = 0;
-    for q in 0..k {
-        sum += member(b, q);
-    }
-    sum
+    (0..k).filter(|q| sets::has(b, *q)).count()
 }
 
 // The word of kind 13, a bound, and value 0.
@@ -168,69 +146,60 @@ pub fn conclude(table: &mut [u32], used: usize, limit: u64) -> usize
     used + 1
 }
 
-// No unit, counted from 1, comes after this one.
-const LAST_UNIT: usize = 16;
+// No unit comes after this one.
+const LAST_UNIT: usize = 15;
 
-// The unit, from 1, of a choice's word, where it is one of those placed and has that start; else 0.
-fn unit_met(starts: [u8; 16], placed: u32, word: u32) -> usize
-    ensures { UnitMet starts (has placed) word result }
+// The unit of a choice's word, where it is one of those placed and has that start.
+fn unit_met(starts: [u8; 16], placed: u32, word: u32) -> Option<usize>
+    ensures { IfSome result (UnitMet starts (has placed) word) }
 {
     let value = words::value_of(word);
-    let unit = value / CHOICE_RADIX;
-    if unit < 1 {
-        return 0;
-    }
+    let unit = (value / CHOICE_RADIX).checked_sub(1)?;
     if LAST_UNIT < unit {
-        return 0;
+        return None;
     }
-    if !sets::has(placed, unit - 1) {
-        return 0;
+    if !sets::has(placed, unit) {
+        return None;
     }
-    if start_of(starts, unit - 1) != value % CHOICE_RADIX {
-        return 0;
+    if start_of(starts, unit) != value % CHOICE_RADIX {
+        return None;
     }
-    unit
+    Some(unit)
 }
 
-// Whether the starts of the units placed have all choices of the nogood at place i.
-fn matching(table: &[u32], starts: [u8; 16], placed: u32, i: usize) -> Scan
+// The units of the nogood at place i, where the starts of the units placed have all its choices.
+fn matching(table: &[u32], starts: [u8; 16], placed: u32, i: usize) -> Option<u32>
     requires { i < length table.now }
-    ensures { Matched table.now starts (has placed) i result }
+    ensures { IfSome result (Match table.now starts (has placed) i) }
 {
     let mut b = 0;
-    let mut m = i + 1;
-    while m < table.len() {
+    for m in i + 1..table.len() {
         let word = table[m];
         if words::kind_of(word) != 14 {
-            return Scan::Cut(b);
+            return Some(b);
         }
-        let unit = unit_met(starts, placed, word);
-        if unit < 1 {
-            return Scan::Miss;
-        }
-        b = sets::with(b, unit - 1);
-        m += 1;
+        b = sets::with(b, unit_met(starts, placed, word)?);
     }
-    Scan::Cut(b)
+    Some(b)
 }
 
-// Whether a nogood at place i holds for the limit and has choices that the starts of the units placed have.
-fn meets(table: &[u32], starts: [u8; 16], placed: u32, limit: u64, i: usize) -> Scan
+// The units of a nogood at place i that holds for the limit, where the starts of the units placed have all its choices.
+fn meets(table: &[u32], starts: [u8; 16], placed: u32, limit: u64, i: usize) -> Option<u32>
     requires { i < length table.now }
     ensures { Recalled table.now starts (has placed) limit result }
 {
     let word = table[i];
     if words::kind_of(word) != 13 {
-        return Scan::Miss;
+        return None;
     }
     let bound = words::value_of(word) as u64;
-    if limit <= bound + 1 {
-        return matching(table, starts, placed, i);
+    if bound + 1 < limit {
+        return None;
     }
-    Scan::Miss
+    matching(table, starts, placed, i)
 }
 
-// Looks for a nogood that holds for the limit and whose choices the starts of the units placed have, among the words from one place to another.
+// The units of a nogood that holds for the limit and whose choices the starts of the units placed have, among the words from one place to another.
 // A choice is of a unit placed by the test of the unit itself: what the starts of other units are does not matter.
 pub fn recall(
     table: &[u32],
@@ -239,17 +208,9 @@ pub fn recall(
     starts: [u8; 16],
     placed: u32,
     limit: u64,
-) -> Scan
+) -> Option<u32>
     requires { to ≤ length table.now }
     ensures { Recalled table.now starts (has placed) limit result }
 {
-    let mut i = from;
-    while i < to {
-        let h = meets(table, starts, placed, limit, i);
-        if let Scan::Cut(b) = h {
-            return Scan::Cut(b);
-        }
-        i += 1;
-    }
-    Scan::Miss
+    (from..to).find_map(|i| meets(table, starts, placed, limit, i))
 }

@@ -2,7 +2,7 @@
 -- Assumes nothing.
 use Prim.Native.Nat.{ℕ, ◌+◌, ◌*◌, ◌-◌, ◌≤◌, ◌<◌}
 use mathlib.Core.Path.{◌≡◌, refl, sym, ap, subst, subst₂}
-use mathlib.Core.Bool.{true, false}
+use mathlib.Core.Bool.{false}
 use mathlib.Core.List.{List}
 use native.Mathlib.Nat.{le_trans}
 use native.Mathlib.Omega.{arith}
@@ -26,7 +26,7 @@ use Rattle.state.specs.declared.Step.{Step}
 use Rattle.state.specs.declared.Walked.{Walked}
 use Rattle.state.specs.declared.Walked.TheVariants.{Dead, Spent}
 use Rattle.state.specs.State.{dead_at, DeadEndNoted}
-use Rattle.walk.specs.declared.Turn.{Turn}
+use Rattle.std.proofs.Common.{Option, Some, None}
 use Rattle.walk.specs.Walk.{TableTrue, Walking, LeavesUnit, GoesOn, TurnOf}
 use Rattle.walk.proofs.StateLaws.{held_carried}
 use Rattle.walk.proofs.NotedLaws.{later_noted}
@@ -44,23 +44,25 @@ walking_on ws l us memo memo' h r = record { filed = h.filed; dual = h.dual; rec
 
 -- ---- a unit is placed
 
--- a unit was chosen in a state and with a table; its starts from the first to the last are tried, and those below v have failed
-pub record Starting (ws : List ℕ) (l : Layout) (us rows ys : List ℕ) (at : Visit) (w : List ℕ) (unit last : ℕ) (w₁ : List ℕ) (s : State)
+-- a unit was chosen in a state and with a table; its starts from the first to before the end are tried, and those below v have failed
+pub record Starting (ws : List ℕ) (l : Layout) (us rows ys : List ℕ) (at : Visit) (w : List ℕ) (unit end : ℕ) (w₁ : List ℕ) (s : State)
     (blame v : ℕ) (memo : List ℕ) : Type 0 where
   pub walking : Walking ws l us memo
-  pub opened : Opened (problem_of ws) w us rows ys at.node at.state
+  pub opened : Opened (problem_of ws) w us rows ys at.visit.node at.visit.state
   pub inside : unit < (problem_of ws).units
-  pub fresh : has at.node.placed unit ≡ false
+  pub fresh : has at.visit.node.placed unit ≡ false
   pub first : ℕ
+  pub last : ℕ
+  pub to_last : end ≡ last + 1
   pub range : StartRange (problem_of ws) unit first last
   pub from : first ≤ v
   pub ends : last ≤ (problem_of ws).weeks
-  pub trying : Trying (problem_of ws) (has at.node.placed) (entry at.node.starts) unit w w₁ at.state s blame v
+  pub trying : Trying (problem_of ws) (has at.visit.node.placed) (entry at.visit.node.starts) unit w w₁ at.visit.state s blame v
 
 -- as one fact
-unfoldable pub Starts : (ws : List ℕ) → Layout → (us rows ys : List ℕ) → Visit → (w : List ℕ) → (unit last : ℕ) → (w₁ : List ℕ) → State
+unfoldable pub Starts : (ws : List ℕ) → Layout → (us rows ys : List ℕ) → Visit → (w : List ℕ) → (unit end : ℕ) → (w₁ : List ℕ) → State
     → (blame v : ℕ) → (memo : List ℕ) → Type 0
-Starts ws l us rows ys at w unit last w₁ s blame v memo = Starting ws l us rows ys at w unit last w₁ s blame v memo
+Starts ws l us rows ys at w unit end w₁ s blame v memo = Starting ws l us rows ys at w unit end w₁ s blame v memo
 
 module _ (ws : List ℕ) (l : Layout) (us rows ys : List ℕ) (at : Visit) (w memo : List ℕ) (d : PlaceDue ws l us rows ys at w memo) where
   f : Filed ws l
@@ -73,12 +75,12 @@ module _ (ws : List ℕ) (l : Layout) (us rows ys : List ℕ) (at : Visit) (w me
   place_filed = d.walking.filed
 
   -- and a limit
-  pub place_small : at.state.limit.0 ≤ MOST_LIMIT
+  pub place_small : at.visit.state.limit.0 ≤ MOST_LIMIT
   unfolding PlaceDue
   place_small = d.opened.small
 
   -- all units are placed
-  pub place_leaf : (unit : ℕ) → Chosen l.units at.node.placed unit → l.units ≤ unit → WeighDue ws l us rows ys at memo
+  pub place_leaf : (unit : ℕ) → Chosen l.units at.visit.node.placed unit → l.units ≤ unit → WeighDue ws l us rows ys at memo
   unfolding PlaceDue WeighDue
   place_leaf unit c last = record {
     w = w;
@@ -90,13 +92,17 @@ module _ (ws : List ℕ) (l : Layout) (us rows ys : List ℕ) (at : Visit) (w me
   }
 
   -- and the plan was weighed
-  pub place_weighed : (step : Step) → Weighed (problem_of ws) at.node at.state step → PlaceDone (problem_of ws) w w at.node at.state step
+  pub place_weighed : (step : Step) → Weighed (problem_of ws) at.visit.node at.visit.state step → PlaceDone (problem_of ws) w w at.visit.node at.visit.state step
   unfolding PlaceDone
   place_weighed step h = h.each w
 
+  -- the number after a unit's last start fits a word
+  pub place_fits : (last : ℕ) → last ≤ l.weeks → last + 1 < 18446744073709551616
+  place_fits last ends = omega (arith, f.weeks_most)
+
   -- no start was tried
-  pub place_starts : (unit first last : ℕ) → Chosen l.units at.node.placed unit → unit < l.units → StartRange (problem_of ws) unit first last
-      → last ≤ l.weeks → Starts ws l us rows ys at w unit last w at.state 0 first memo
+  pub place_starts : (unit first last : ℕ) → Chosen l.units at.visit.node.placed unit → unit < l.units → StartRange (problem_of ws) unit first last
+      → last ≤ l.weeks → Starts ws l us rows ys at w unit (last + 1) w at.visit.state 0 first memo
   unfolding PlaceDue Starts
   place_starts unit first last c inside range ends =
       let in_units : unit < (problem_of ws).units = omega (arith, f.units_are) in
@@ -106,18 +112,20 @@ module _ (ws : List ℕ) (l : Layout) (us rows ys : List ℕ) (at : Visit) (w me
         inside = in_units;
         fresh = c.fresh inside;
         first = first;
+        last = last;
+        to_last = refl;
         range = range;
         from = omega arith;
         ends = omega (arith, f.weeks_are);
-        trying = trying_start (problem_of ws) (has at.node.placed) (entry at.node.starts) unit first last w at.state range in_units;
+        trying = trying_start (problem_of ws) (has at.visit.node.placed) (entry at.visit.node.starts) unit first last w at.visit.state range in_units;
       }
 
-module _ (ws : List ℕ) (l : Layout) (us rows ys : List ℕ) (at : Visit) (w : List ℕ) (unit last : ℕ) (w₁ : List ℕ) (s : State)
-    (blame v : ℕ) (memo₁ : List ℕ) (h : Starts ws l us rows ys at w unit last w₁ s blame v memo₁) where
+module _ (ws : List ℕ) (l : Layout) (us rows ys : List ℕ) (at : Visit) (w : List ℕ) (unit end : ℕ) (w₁ : List ℕ) (s : State)
+    (blame v : ℕ) (memo₁ : List ℕ) (h : Starts ws l us rows ys at w unit end w₁ s blame v memo₁) where
   abbrev prob : Problem
   prob = problem_of ws
 
-  t : Trying (problem_of ws) (has at.node.placed) (entry at.node.starts) unit w w₁ at.state s blame v
+  t : Trying (problem_of ws) (has at.visit.node.placed) (entry at.visit.node.starts) unit w w₁ at.visit.state s blame v
   unfolding Starts
   t = h.trying
 
@@ -130,17 +138,13 @@ module _ (ws : List ℕ) (l : Layout) (us rows ys : List ℕ) (at : Visit) (w : 
   starts_small = omega (arith, starts_few)
 
   -- a start is one of 52
-  pub starts_within : v ≤ last → v ≤ 52
+  pub starts_within : v < end → v ≤ 52
   unfolding Starts
-  starts_within here = omega (arith, h.ends, h.walking.filed.weeks_are, h.walking.filed.weeks_most)
-
-  -- so the next one fits a word
-  pub starts_fit : v ≤ last → v + 1 < 18446744073709551616
-  starts_fit here = omega (arith, starts_within here)
+  starts_within here = omega (arith, h.to_last, h.ends, h.walking.filed.weeks_are, h.walking.filed.weeks_most)
 
   held : TableTrue (problem_of ws) w₁ s.used
   unfolding Starts
-  held = held_carried prob w w₁ at.state.used s.used h.opened.held t.goes.carried
+  held = held_carried prob w w₁ at.visit.state.used s.used h.opened.held t.goes.carried
 
   -- a dead end can be noted
   pub starts_used : s.used ≤ length w₁
@@ -160,35 +164,35 @@ module _ (ws : List ℕ) (l : Layout) (us rows ys : List ℕ) (at : Visit) (w : 
   starts_recalls = h.walking.recalls
 
   -- all starts have failed, and the dead end was noted or not
-  pub starts_done : (w₂ : List ℕ) (r : State) (step : Step) → last < v → DeadEndNoted w₁ w₂ s r at.node.starts l.units blame
-      → step ≡ dead_at r blame → PlaceDone (problem_of ws) w w₂ at.node at.state step
+  pub starts_done : (w₂ : List ℕ) (r : State) (step : Step) → end ≤ v → DeadEndNoted w₁ w₂ s r at.visit.node.starts l.units blame
+      → step ≡ dead_at r blame → PlaceDone (problem_of ws) w w₂ at.visit.node at.visit.state step
   unfolding Starts PlaceDone
   starts_done w₂ r step ended k is =
-      let b = trying_all prob (has at.node.placed) at.node.starts unit w w₁ at.state s blame v t h.first last h.range h.inside ended in
-      let carried = (later_noted prob w₁ w₂ s r at.node.starts l.units blame (omega (arith, h.walking.filed.units_are)) starts_limit
+      let b = trying_all prob (has at.visit.node.placed) at.visit.node.starts unit w w₁ at.visit.state s blame v t h.first h.last h.range h.inside (omega (arith, h.to_last)) in
+      let carried = (later_noted prob w₁ w₂ s r at.visit.node.starts l.units blame (omega (arith, h.walking.filed.units_are)) starts_limit
       (λ i e. h.opened.stands.standing.permits i (t.within i e))
       (λ i e. omega (arith, h.opened.within i (t.within i e), h.walking.filed.units_are)) b.closed k).carried in
       let limit_is = ap (λ (x : State). x.limit) k.state in
       let best_is = ap (λ (x : State). x.best) k.state in
       let tries_is = ap (λ (x : State). x.tries) k.state in
       let budget_is = ap (λ (x : State). x.budget) k.state in
-      subst (PlaceDone prob w w₂ at.node at.state) (sym is) (record {
+      subst (PlaceDone prob w w₂ at.visit.node at.visit.state) (sym is) (record {
         improves = rw (limit_is, best_is) t.improves;
         says = rw limit_is b;
-        goes = goes_next prob w w₁ w₂ at.state s r t.goes
+        goes = goes_next prob w w₁ w₂ at.visit.state s r t.goes
             (record { carried = carried; budget = budget_is; counted = λ m. rw (tries_is, budget_is) m });
       })
 
-  module _ (here : v ≤ last) (next : Visit) (start : IsStart at unit v s next) where
-    long : unit < length at.node.starts
+  module _ (here : v < end) (next : Visit) (start : IsStart at unit v s next) where
+    long : unit < length at.visit.node.starts
     unfolding Starts
     long = omega (arith, starts_few, h.opened.long)
 
-    startable : Startable (problem_of ws) w₁ us rows ys (start_at at.node unit v) s
+    startable : Startable (problem_of ws) w₁ us rows ys (start_at at.visit.node unit v) s
     unfolding Starts
     startable =
-        startable_at prob w us rows ys at.node at.state h.opened unit v h.fresh w₁ s h.inside starts_few
-        (range_in prob unit h.first last v h.range h.from here) starts_limit held
+        startable_at prob w us rows ys at.visit.node at.visit.state h.opened unit v h.fresh w₁ s h.inside starts_few
+        (range_in prob unit h.first h.last v h.range h.from (omega (arith, h.to_last))) starts_limit held
 
     -- the next start is tried
     pub starts_try : StartDue ws l us rows ys next w₁ memo₁
@@ -199,39 +203,39 @@ module _ (ws : List ℕ) (l : Layout) (us rows ys : List ℕ) (at : Visit) (w : 
     }
 
     -- the measure falls
-    pub starts_fall : (n : ℕ) → 2 * unplaced (problem_of ws) (has at.node.placed) ≡ n → 2 * unplaced (problem_of ws) (has next.node.placed) - 1 < n
+    pub starts_fall : (n : ℕ) → 2 * unplaced (problem_of ws) (has at.visit.node.placed) ≡ n → 2 * unplaced (problem_of ws) (has next.visit.node.placed) - 1 < n
     unfolding Starts
     starts_fall n e =
-        let g = unplaced_falls prob (has at.node.placed) unit h.inside h.fresh in
+        let g = unplaced_falls prob (has at.visit.node.placed) unit h.inside h.fresh in
         let q = ap (λ (x : Node). unplaced prob (has x.placed)) start.node_is in
         omega (arith, g, q)
 
-    module _ (w₂ : List ℕ) (step : Step) (done : StartDone (problem_of ws) w₁ w₂ next step) (turn : Turn) (told : TurnOf step blame unit turn) where
-      own : Probed (problem_of ws) (with (has at.node.placed) unit) (entry (set at.node.starts unit v)) w₁ w₂ s step
+    module _ (w₂ : List ℕ) (step : Step) (done : StartDone (problem_of ws) w₁ w₂ next step) (turn : Option ℕ) (told : TurnOf step blame unit turn) where
+      own : Probed (problem_of ws) (with (has at.visit.node.placed) unit) (entry (set at.visit.node.starts unit v)) w₁ w₂ s step
       unfolding StartDone
       own =
           subst₂ (λ (n : Node) (x : State). Probed prob (placed_after n) (entry n.starts) w₁ w₂ x step) start.node_is start.state_is done
 
       -- the probe stops, or the unit has no share in the dead end: it jumps back
-      left : turn.left ≡ true → PlaceDone (problem_of ws) w w₂ at.node at.state step
+      left : turn ≡ None → PlaceDone (problem_of ws) w w₂ at.visit.node at.visit.state step
       unfolding Starts PlaceDone
-      left so = go step.walked refl (told.leaves so)
+      left so = go step.walked refl (subst (TurnOf step blame unit) so told)
         where
           go : (k : Walked) → step.walked ≡ k → LeavesUnit unit k
-              → Probed (problem_of ws) (has at.node.placed) (entry at.node.starts) w w₂ at.state step
+              → Probed (problem_of ws) (has at.visit.node.placed) (entry at.visit.node.starts) w w₂ at.visit.state step
           go (Spent m) e _ =
-              probed_stopped prob (has at.node.placed) at.node.starts unit w w₁ at.state s blame v t h.fresh long w₂ step own m e
+              probed_stopped prob (has at.visit.node.placed) at.visit.node.starts unit w w₁ at.visit.state s blame v t h.fresh long w₂ step own m e
           go (Dead b) e free =
-              probed_jump prob (has at.node.placed) at.node.starts unit w w₁ at.state s blame v t h.fresh long w₂ step own b e free
+              probed_jump prob (has at.visit.node.placed) at.visit.node.starts unit w w₁ at.visit.state s blame v t h.fresh long w₂ step own b e free
 
       -- it shares it: the next start
-      next_start : (memo₂ : List ℕ) → turn.left ≡ false → MemoTrue (problem_of ws) (price_in us) memo₂
-          → Starts ws l us rows ys at w unit last w₂ step.state turn.blame (v + 1) memo₂
+      next_start : (memo₂ : List ℕ) (both : ℕ) → turn ≡ Some both → MemoTrue (problem_of ws) (price_in us) memo₂
+          → Starts ws l us rows ys at w unit end w₂ step.state both (v + 1) memo₂
       unfolding Starts
-      next_start memo₂ so recalls = go step.walked refl (told.goes_on so)
+      next_start memo₂ both so recalls = go step.walked refl (subst (TurnOf step blame unit) so told)
         where
-          go : (k : Walked) → step.walked ≡ k → GoesOn blame unit turn.blame k
-              → Starting ws l us rows ys at w unit last w₂ step.state turn.blame (v + 1) memo₂
+          go : (k : Walked) → step.walked ≡ k → GoesOn blame unit both k
+              → Starting ws l us rows ys at w unit end w₂ step.state both (v + 1) memo₂
           go (Spent m) e x = absurd x
           go (Dead b) e union = record {
             walking = walking_on ws l us memo₁ memo₂ h.walking recalls;
@@ -239,28 +243,30 @@ module _ (ws : List ℕ) (l : Layout) (us rows ys : List ℕ) (at : Visit) (w : 
             inside = h.inside;
             fresh = h.fresh;
             first = h.first;
+            last = h.last;
+            to_last = h.to_last;
             range = h.range;
             from = omega (arith, h.from);
             ends = h.ends;
-            trying = trying_next prob (has at.node.placed) at.node.starts unit w w₁ at.state s blame v t h.fresh long w₂ step own b e
-                turn.blame union;
+            trying = trying_next prob (has at.visit.node.placed) at.visit.node.starts unit w w₁ at.visit.state s blame v t h.fresh long w₂ step own b e
+                both union;
           }
 
 -- the same two with the facts that a search tells apart first
-pub starts_left : (ws : List ℕ) (l : Layout) (us rows ys : List ℕ) (at : Visit) (w : List ℕ) (unit last : ℕ) (w₁ : List ℕ) (s : State)
-    (blame v : ℕ) (memo₁ : List ℕ) (next : Visit) (w₂ : List ℕ) (step : Step) (turn : Turn)
-    → Starts ws l us rows ys at w unit last w₁ s blame v memo₁ → IsStart at unit v s next → StartDone (problem_of ws) w₁ w₂ next step
-    → TurnOf step blame unit turn → v ≤ last → turn.left ≡ true → PlaceDone (problem_of ws) w w₂ at.node at.state step
-starts_left ws l us rows ys at w unit last w₁ s blame v memo₁ next w₂ step turn h start done told here =
-    left ws l us rows ys at w unit last w₁ s blame v memo₁ h here next start w₂ step done turn told
+pub starts_left : (ws : List ℕ) (l : Layout) (us rows ys : List ℕ) (at : Visit) (w : List ℕ) (unit end : ℕ) (w₁ : List ℕ) (s : State)
+    (blame v : ℕ) (memo₁ : List ℕ) (next : Visit) (w₂ : List ℕ) (step : Step) (turn : Option ℕ)
+    → Starts ws l us rows ys at w unit end w₁ s blame v memo₁ → IsStart at unit v s next → StartDone (problem_of ws) w₁ w₂ next step
+    → TurnOf step blame unit turn → v < end → turn ≡ None → PlaceDone (problem_of ws) w w₂ at.visit.node at.visit.state step
+starts_left ws l us rows ys at w unit end w₁ s blame v memo₁ next w₂ step turn h start done told here =
+    left ws l us rows ys at w unit end w₁ s blame v memo₁ h here next start w₂ step done turn told
 
-pub starts_next : (ws : List ℕ) (l : Layout) (us rows ys : List ℕ) (at : Visit) (w : List ℕ) (unit last : ℕ) (w₁ : List ℕ) (s : State)
-    (blame v : ℕ) (memo₁ : List ℕ) (next : Visit) (w₂ : List ℕ) (step : Step) (turn : Turn) (memo₂ : List ℕ)
-    → Starts ws l us rows ys at w unit last w₁ s blame v memo₁ → IsStart at unit v s next → StartDone (problem_of ws) w₁ w₂ next step
-    → TurnOf step blame unit turn → MemoTrue (problem_of ws) (price_in us) memo₂ → v ≤ last → turn.left ≡ false
-    → Starts ws l us rows ys at w unit last w₂ step.state turn.blame (v + 1) memo₂
-starts_next ws l us rows ys at w unit last w₁ s blame v memo₁ next w₂ step turn memo₂ h start done told recalls here so =
-    next_start ws l us rows ys at w unit last w₁ s blame v memo₁ h here next start w₂ step done turn told memo₂ so recalls
+pub starts_next : (ws : List ℕ) (l : Layout) (us rows ys : List ℕ) (at : Visit) (w : List ℕ) (unit end : ℕ) (w₁ : List ℕ) (s : State)
+    (blame v : ℕ) (memo₁ : List ℕ) (next : Visit) (w₂ : List ℕ) (step : Step) (turn : Option ℕ) (both : ℕ) (memo₂ : List ℕ)
+    → Starts ws l us rows ys at w unit end w₁ s blame v memo₁ → IsStart at unit v s next → StartDone (problem_of ws) w₁ w₂ next step
+    → TurnOf step blame unit turn → MemoTrue (problem_of ws) (price_in us) memo₂ → v < end → turn ≡ Some both
+    → Starts ws l us rows ys at w unit end w₂ step.state both (v + 1) memo₂
+starts_next ws l us rows ys at w unit end w₁ s blame v memo₁ next w₂ step turn both memo₂ h start done told recalls here so =
+    next_start ws l us rows ys at w unit end w₁ s blame v memo₁ h here next start w₂ step done turn told memo₂ both so recalls
 
 -- a table keeps its length
 pub place_long : (p : Problem) (w w' : List ℕ) (at : Visit) (step : Step) → StartDone p w w' at step → length w' ≡ length w

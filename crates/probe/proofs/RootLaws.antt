@@ -13,8 +13,7 @@ use Rattle.model.specs.declared.Layout.{Layout}
 use Rattle.model.specs.Problem.{Problem}
 use Rattle.model.specs.Words.{problem_of}
 use Rattle.instance.specs.declared.Euro.{Euro}
-use Rattle.bound.specs.declared.Trial.{Trial}
-use Rattle.bound.specs.declared.Trial.TheVariants.{Holds, Fails}
+use Rattle.std.proofs.Common.{Result, Ok, Err}
 use Rattle.bound.specs.Tests.{Blames, AllStand, AllBlame, RootValues, Rooted, RootDue}
 use Rattle.bound.proofs.RowLaws.{rows_none}
 use Rattle.state.specs.declared.State.{State}
@@ -22,9 +21,9 @@ use Rattle.state.specs.declared.Step.{Step}
 use Rattle.state.specs.declared.Walked.{Walked}
 use Rattle.state.specs.declared.Walked.TheVariants.{Dead, Spent}
 use Rattle.state.specs.State.{dead_at}
-use Rattle.walk.specs.Walk.{AllSettled, Unspent}
+use Rattle.walk.specs.Walk.{AllSettled, AtRoot, Unspent}
 use Rattle.probe.specs.declared.Visit.{Visit}
-use Rattle.probe.specs.Probe.{Says, Probed, PlaceDue, PlaceDone, AtRoot, ProbeDue, RootDone}
+use Rattle.probe.specs.Probe.{Says, Probed, PlaceDue, PlaceDone, ProbeDue, RootDone}
 use Rattle.probe.proofs.PlanLaws.{goes_same}
 
 -- where nobody is to blame, nothing is below the limit
@@ -36,9 +35,9 @@ module _ (ws : List ℕ) (l : Layout) (us w memo : List ℕ) (st : State) (d : P
   pub root_due : RootDue ws l us st.limit.0
   root_due = record { filed = d.walking.filed; dual = d.walking.dual; small = d.small }
 
-  module _ (v : Trial) (said : Rooted (problem_of ws) us st.limit.0 v) where
+  module _ (v : Result Euro ℕ) (said : Rooted (problem_of ws) us st.limit.0 v) where
     -- before any unit is placed nothing is left below the limit
-    pub root_fails : (b : ℕ) (step : Step) → v ≡ Fails b → step ≡ dead_at st 0 → RootDone (problem_of ws) w w st step
+    pub root_fails : (b : ℕ) (step : Step) → v ≡ Err b → step ≡ dead_at st 0 → RootDone (problem_of ws) w w st step
     root_fails b step e is =
         let h : AllBlame (problem_of ws) st.limit.0 b = subst (Rooted (problem_of ws) us st.limit.0) e said in
         subst (RootDone (problem_of ws) w w st) (sym is) (record {
@@ -49,7 +48,7 @@ module _ (ws : List ℕ) (l : Layout) (us w memo : List ℕ) (st : State) (d : P
         })
 
     -- no unit is placed
-    pub root_places : (c : Euro) (rows ys : List ℕ) (at : Visit) → v ≡ Holds c → rows ≡ replicate 52 0 → RootValues us ys → AtRoot c.0 st at
+    pub root_places : (c : Euro) (rows ys : List ℕ) (at : Visit) → v ≡ Ok c → rows ≡ replicate 52 0 → RootValues us ys → AtRoot c.0 st at.visit
         → PlaceDue ws l us rows ys at w memo
     unfolding PlaceDue
     root_places c rows ys at e none fronts root =
@@ -59,21 +58,21 @@ module _ (ws : List ℕ) (l : Layout) (us w memo : List ℕ) (st : State) (d : P
           opened = record {
             within = λ i h. true_false (sym h ∙ (ap (λ (n : ℕ). has n i) root.nobody ∙ zero_has i));
             long = root.long;
-            stands = rw (root.nobody, root.bound_is) (stands.each (entry at.node.starts));
-            tallied = rw root.nobody (rows_none (problem_of ws) (entry at.node.starts) rows none);
+            stands = rw (root.nobody, root.bound_is) (stands.each (entry at.visit.node.starts));
+            tallied = rw root.nobody (rows_none (problem_of ws) (entry at.visit.node.starts) rows none);
             small = rw root.same d.small;
             held = rw root.same d.held;
           };
         }
 
 -- units were placed in any order
-pub root_placed : (p : Problem) (w w' : List ℕ) (c : ℕ) (st : State) (at : Visit) (step : Step) → AtRoot c st at → PlaceDone p w w' at.node at.state step
+pub root_placed : (p : Problem) (w w' : List ℕ) (c : ℕ) (st : State) (at : Visit) (step : Step) → AtRoot c st at.visit → PlaceDone p w w' at.visit.node at.visit.state step
     → RootDone p w w' st step
 unfolding PlaceDone
 root_placed p w w' c st at step root done =
-    let x : Probed p (has 0) (entry at.node.starts) w w' st step
-    = subst (λ (s : State). Probed p (has 0) (entry at.node.starts) w w' s step) root.same
-    (subst (λ (n : ℕ). Probed p (has n) (entry at.node.starts) w w' at.state step) root.nobody done) in
+    let x : Probed p (has 0) (entry at.visit.node.starts) w w' st step
+    = subst (λ (s : State). Probed p (has 0) (entry at.visit.node.starts) w w' s step) root.same
+    (subst (λ (n : ℕ). Probed p (has n) (entry at.visit.node.starts) w w' at.visit.state step) root.nobody done) in
     record {
       falls = x.improves.falls;
       settled = λ u. go step.walked u x.says;
@@ -81,6 +80,6 @@ root_placed p w w' c st at step root done =
       goes = x.goes;
     }
   where
-    go : (k : Walked) → Unspent k → Says p (has 0) (entry at.node.starts) step.state.limit.0 k → AllSettled p step.state.limit.0
-    go (Dead b) u h = blame_nobody p (entry at.node.starts) step.state.limit.0 b h
+    go : (k : Walked) → Unspent k → Says p (has 0) (entry at.visit.node.starts) step.state.limit.0 k → AllSettled p step.state.limit.0
+    go (Dead b) u h = blame_nobody p (entry at.visit.node.starts) step.state.limit.0 b h
     go (Spent m) u h = absurd u

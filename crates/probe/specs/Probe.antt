@@ -16,20 +16,17 @@ use Rattle.blame.specs.Placed.{out_of, paid, Standing}
 use Rattle.tables.specs.Tables.{price_in}
 use Rattle.relaxation.specs.Relaxed.{MemoTrue}
 use Rattle.dual.specs.declared.Node.{Node}
-use Rattle.dual.specs.Blame.{placed_after, IsNext}
+use Rattle.dual.specs.Blame.{placed_after}
 use Rattle.bound.specs.Rows.{Rows}
-use Rattle.bound.specs.declared.Trial.{Trial}
-use Rattle.bound.specs.declared.Trial.TheVariants.{Holds, Fails}
+use Rattle.std.specs.Prelude.{Result, Ok, Err}
+use Rattle.instance.specs.declared.Euro.{Euro}
 use Rattle.bound.specs.Tests.{Blames, Stands, Judged}
 use Rattle.state.specs.declared.State.{State}
 use Rattle.state.specs.declared.Step.{Step}
 use Rattle.state.specs.declared.Walked.{Walked}
 use Rattle.state.specs.declared.Walked.TheVariants.{Dead, Spent}
-use Rattle.state.specs.State.{tried_once}
-use Rattle.walk.specs.declared.Visit.{Visit as LeafVisit}
-use Rattle.walk.specs.Walk.{TableTrue, Carried, Walking, AllSettled, AllPlaced, Unspent}
+use Rattle.walk.specs.Walk.{TableTrue, Carried, Walking, Deeper, AllSettled, AllPlaced, Unspent}
 use Rattle.probe.specs.declared.Visit.{Visit}
-use Rattle.probe.specs.declared.Tried.{Tried}
 
 -- ---- units placed
 
@@ -117,12 +114,12 @@ pub record Startable (p : Problem) (w us rows ys : List ℕ) (node : Node) (st :
 -- what placing a unit asks
 pub record PlaceNeeds (ws : List ℕ) (l : Layout) (us rows ys : List ℕ) (at : Visit) (w memo : List ℕ) : Type 0 where
   pub walking : Walking ws l us memo
-  pub opened : Opened (problem_of ws) w us rows ys at.node at.state
+  pub opened : Opened (problem_of ws) w us rows ys at.visit.node at.visit.state
 
 -- what trying a start asks
 pub record StartNeeds (ws : List ℕ) (l : Layout) (us rows ys : List ℕ) (at : Visit) (w memo : List ℕ) : Type 0 where
   pub walking : Walking ws l us memo
-  pub startable : Startable (problem_of ws) w us rows ys at.node at.state
+  pub startable : Startable (problem_of ws) w us rows ys at.visit.node at.visit.state
 
 -- the same as one fact each
 unfoldable pub PlaceDue : (ws : List ℕ) → Layout → (us rows ys : List ℕ) → Visit → (w memo : List ℕ) → Type 0
@@ -135,40 +132,28 @@ StartDue ws l us rows ys at w memo = StartNeeds ws l us rows ys at w memo
 pub record WeighNeeds (ws : List ℕ) (l : Layout) (us rows ys : List ℕ) (at : Visit) (memo : List ℕ) : Type 0 where
   pub w : List ℕ
   pub needs : PlaceNeeds ws l us rows ys at w memo
-  pub whole : AllPlaced (problem_of ws) at.node.placed
+  pub whole : AllPlaced (problem_of ws) at.visit.node.placed
 
 unfoldable pub WeighDue : (ws : List ℕ) → Layout → (us rows ys : List ℕ) → Visit → (memo : List ℕ) → Type 0
 WeighDue ws l us rows ys at memo = WeighNeeds ws l us rows ys at memo
 
--- a start that was to be tried was judged; what it asked holds still
-pub record Judging (ws : List ℕ) (l : Layout) (us rows ys : List ℕ) (at : Visit) (w memo zs memo₁ : List ℕ) (v : Trial) : Type 0 where
+-- a start that was to be tried was judged within the budget; what it asked holds still
+pub record Judging (ws : List ℕ) (l : Layout) (us rows ys : List ℕ) (at : Visit) (w memo zs memo₁ : List ℕ) (v : Result Euro ℕ) : Type 0 where
   pub due : StartNeeds ws l us rows ys at w memo
-  pub said : Judged (problem_of ws) us at.node at.state.limit.0 zs v
+  pub left : at.visit.state.tries < at.visit.state.budget
+  pub said : Judged (problem_of ws) us at.visit.node at.visit.state.limit.0 zs v
   pub recalls : MemoTrue (problem_of ws) (price_in us) memo₁
 
-unfoldable pub StartJudged : (ws : List ℕ) → Layout → (us rows ys : List ℕ) → Visit → (w memo zs memo₁ : List ℕ) → Trial → Type 0
-StartJudged ws l us rows ys at w memo zs memo₁ v = Judging ws l us rows ys at w memo zs memo₁ v
+-- it holds, and the probe goes on
+pub record Taken (ws : List ℕ) (l : Layout) (us rows ys : List ℕ) (at : Visit) (w memo zs memo₁ : List ℕ) (next : Visit) : Type 0 where
+  pub bound : Euro
+  pub judging : Judging ws l us rows ys at w memo zs memo₁ (Ok bound)
+  pub goes : Deeper at.visit bound next.visit
 
--- where the probe goes on: where the start holds its unit is placed
-abbrev pub GoesTo : Node → Trial → Node → Type 0
-GoesTo node (Holds r) next = IsNext node r next
-GoesTo node (Fails b) next = next ≡ node
-
--- and the try is counted
-pub record Deeper (at : Visit) (v : Trial) (r : Tried) : Type 0 where
-  pub trial_is : r.trial ≡ v
-  pub node_is : GoesTo at.node v r.at.node
-  pub state_is : r.at.state ≡ tried_once at.state
-
--- a start was judged within the budget, and the probe goes on
-pub record Taken (ws : List ℕ) (l : Layout) (us rows ys : List ℕ) (at : Visit) (w memo zs memo₁ : List ℕ) (r : Tried) : Type 0 where
-  pub judging : Judging ws l us rows ys at w memo zs memo₁ r.trial
-  pub node_is : GoesTo at.node r.trial r.at.node
-  pub state_is : r.at.state ≡ tried_once at.state
-  pub left : at.state.tries < at.state.budget
-
-unfoldable pub StartTaken : (ws : List ℕ) → Layout → (us rows ys : List ℕ) → Visit → (w memo zs memo₁ : List ℕ) → Tried → Type 0
-StartTaken ws l us rows ys at w memo zs memo₁ r = Taken ws l us rows ys at w memo zs memo₁ r
+-- it holds, or some units' starts are a dead end
+unfoldable pub StartTaken : (ws : List ℕ) → Layout → (us rows ys : List ℕ) → Visit → (w memo zs memo₁ : List ℕ) → Result Visit ℕ → Type 0
+StartTaken ws l us rows ys at w memo zs memo₁ (Ok next) = Taken ws l us rows ys at w memo zs memo₁ next
+StartTaken ws l us rows ys at w memo zs memo₁ (Err b) = Judging ws l us rows ys at w memo zs memo₁ (Err b)
 
 -- a node with start v for a unit
 abbrev pub start_at : Node → (unit v : ℕ) → Node
@@ -176,13 +161,8 @@ start_at node unit v = record { starts = set node.starts unit v; unit = unit; bo
 
 -- a visit of it in a state
 pub record IsStart (at : Visit) (unit v : ℕ) (st : State) (r : Visit) : Type 0 where
-  pub node_is : r.node ≡ start_at at.node unit v
-  pub state_is : r.state ≡ st
-
--- the same node and state, as the walk in the paper's order visits them
-pub record IsLeaf (at : Visit) (r : LeafVisit) : Type 0 where
-  pub node_is : r.node ≡ at.node
-  pub state_is : r.state ≡ at.state
+  pub node_is : r.visit.node ≡ start_at at.visit.node unit v
+  pub state_is : r.visit.state ≡ st
 
 -- a step, or the same stopped
 pub record Stops (step r : Step) : Type 0 where
@@ -203,17 +183,9 @@ PlaceDone p w w' node st step = Probed p (has node.placed) (entry node.starts) w
 
 -- the start of the node's unit was tried
 unfoldable pub StartDone : Problem → (w w' : List ℕ) → Visit → Step → Type 0
-StartDone p w w' at step = Probed p (placed_after at.node) (entry at.node.starts) w w' at.state step
+StartDone p w w' at step = Probed p (placed_after at.visit.node) (entry at.visit.node.starts) w w' at.visit.state step
 
 -- ---- from the root
-
--- the visit of the root: no unit is placed, at this bound
-pub record AtRoot (bound : ℕ) (st : State) (at : Visit) : Type 0 where
-  pub long : length at.node.starts ≡ 16
-  pub none : at.node.unit ≡ 0
-  pub nobody : at.node.placed ≡ 0
-  pub bound_is : at.node.bound.0 ≡ bound
-  pub same : at.state ≡ st
 
 -- what a probe from the root asks
 pub record ProbeDue (ws : List ℕ) (l : Layout) (us : List ℕ) (st : State) (w memo : List ℕ) : Type 0 where

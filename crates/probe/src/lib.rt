@@ -11,24 +11,21 @@ ghost use Rattle.instance.specs.Filed.{Filed};
 ghost use Rattle.tables.specs.Tables.{price_in};
 ghost use Rattle.relaxation.specs.Relaxed.{MemoTrue};
 ghost use Rattle.state.specs.State.{MOST_TRIES, DeadEndNoted};
-ghost use Rattle.probe.specs.Probe.{Chosen, IsStart, AtRoot, PlaceDue, StartDue, StartJudged, Deeper, StartTaken, IsLeaf, WeighDue, Weighed, Stops, PlaceDone, StartDone, RootDone, ProbeDue};
+ghost use Rattle.walk.specs.Walk.{AtRoot, Deeper};
+ghost use Rattle.probe.specs.Probe.{Chosen, IsStart, PlaceDue, StartDue, StartTaken, WeighDue, Weighed, Stops, PlaceDone, StartDone, RootDone, ProbeDue};
 
-use bound::Trial;
 use dual::Node;
 use instance::Euro;
 use model::Layout;
-use nogood::Scan;
 use state::{State, Step};
 use tables::TABLES;
 
 mod choice;
 
-// A visit of a node: where the probe stands, the state in which it comes there, the units placed, four bits each and the last lowest, and whether the
-// probe ends at its first plan.
+// A visit as a walk makes it, and beside it the units placed, four bits each and the last lowest, and whether the probe ends at its first plan.
 #[derive(Clone, Copy)]
 pub struct Visit {
-    pub node: Node,
-    pub state: State,
+    pub visit: walk::Visit,
     pub order: u64,
     pub first: bool,
 }
@@ -52,14 +49,12 @@ fn last_placed(order: u64, b: u32) -> usize
     ensures { result < 16 }
 {
     let mut rest = order;
-    let mut left: usize = 16;
-    while 0 < left {
+    for _ in 0..16 {
         let unit = (rest % UNITS) as usize;
         if sets::has(b, unit) {
             return unit;
         }
         rest /= UNITS;
-        left -= 1;
     }
     0
 }
@@ -82,71 +77,19 @@ fn note_blame(
 
 // ---- a start judged
 
-// A start that was judged, and where the probe goes on: the try is counted, and where the start holds one unit more is placed at the bound with it.
-#[derive(Clone, Copy)]
-pub struct Tried {
-    pub trial: Trial,
-    pub at: Visit,
-}
-
-// Tests the start of a unit: noted nogoods, then rules and cost.
-fn test_start(
-    words: &[u32],
-    l: Layout,
-    tables: &[u32; TABLES],
-    rows: &[u64; 52],
-    at: Visit,
-    table: &[u32],
-    values: &mut [u32],
-    memo: &mut [u32],
-) -> Trial
-    requires { StartDue words.now l tables.now rows.now values.old at table.now memo.old }
-    ensures { StartJudged words.now l tables.now rows.now values.old at table.now memo.old
-        values.new memo.new result }
+// Where the probe goes on from a start that holds: one unit more is placed.
+fn deeper(at: Visit, bound: Euro) -> Visit
+    requires { (at.visit.node.unit < 16) × (at.visit.state.tries < MOST_TRIES) }
+    ensures { Deeper at.visit bound result.visit }
 {
-    let node = at.node;
-    let st = at.state;
-    let starts = node.starts;
-    let limit = st.limit;
-    let h = state::recalled(table, st, starts, node.placed, node.unit);
-    if let Scan::Cut(b) = h {
-        return Trial::Fails(b);
-    }
-    bound::test(words, l, tables, rows, node, limit, values, memo)
-}
-
-// Where the probe goes on after a verdict.
-fn deeper(at: Visit, v: Trial) -> Tried
-    requires { (at.node.unit < 16) × (at.state.tries < MOST_TRIES) }
-    ensures { Deeper at v result }
-{
-    let node = at.node;
-    let st = at.state;
-    let state = state::tried(st);
-    let first = at.first;
-    match v {
-        Trial::Fails(b) => Tried {
-            trial: Trial::Fails(b),
-            at: Visit {
-                node,
-                state,
-                order: at.order,
-                first,
-            },
-        },
-        Trial::Holds(bound) => Tried {
-            trial: Trial::Holds(bound),
-            at: Visit {
-                node: dual::next_node(node, bound),
-                state,
-                order: order_with(at.order, node.unit),
-                first,
-            },
-        },
+    Visit {
+        visit: walk::deeper(at.visit, bound),
+        order: order_with(at.order, at.visit.node.unit),
+        ..at
     }
 }
 
-// Judges the start of a unit, within the budget.
+// Judges the start of a unit, within the budget: where the probe goes on, or the units whose starts are a dead end.
 pub fn judge_start(
     words: &[u32],
     l: Layout,
@@ -156,13 +99,14 @@ pub fn judge_start(
     table: &[u32],
     values: &mut [u32],
     memo: &mut [u32],
-) -> Tried
-    requires { StartDue words.now l tables.now rows.now values.old at table.now memo.old × (at.state.tries < MOST_TRIES) × (at.state.tries < at.state.budget) }
+) -> Result<Visit, u32>
+    requires { StartDue words.now l tables.now rows.now values.old at table.now memo.old × (at.visit.state.tries < MOST_TRIES)
+        × (at.visit.state.tries < at.visit.state.budget) }
     ensures { StartTaken words.now l tables.now rows.now values.old at table.now memo.old
         values.new memo.new result }
 {
-    let v = test_start(words, l, tables, rows, at, table, values, memo);
-    deeper(at, v)
+    let bound = walk::test_start(words, l, tables, rows, at.visit, table, values, memo)?;
+    Ok(deeper(at, bound))
 }
 
 // ---- all units placed
@@ -182,15 +126,6 @@ fn stop_at_plan(step: Step, limit: Euro, first: bool) -> Step
     step
 }
 
-// The visit as the walk in the paper's order has it.
-fn leaf_visit(at: Visit) -> walk::Visit
-    ensures { IsLeaf at result }
-{
-    let node = at.node;
-    let state = at.state;
-    walk::Visit { node, state }
-}
-
 // Every unit has its start: what the plan costs, and who is to blame that no other with their starts costs less.
 fn weigh(
     words: &[u32],
@@ -202,23 +137,22 @@ fn weigh(
     memo: &mut [u32],
 ) -> Step
     requires { WeighDue words.now l tables.now rows.now values.now at memo.old }
-    ensures answer { Weighed (problem_of words.now) at.node at.state result }
+    ensures answer { Weighed (problem_of words.now) at.visit.node at.visit.state result }
     ensures recalls { MemoTrue (problem_of words.now) (price_in tables.now) memo.new }
 {
-    let step = walk::close_leaf(words, l, tables, rows, values, leaf_visit(at), memo);
-    stop_at_plan(step, at.state.limit, at.first)
+    let step = walk::close_leaf(words, l, tables, rows, values, at.visit, memo);
+    stop_at_plan(step, at.visit.state.limit, at.first)
 }
 
 // ---- a start tried, and the starts of a unit
 
 // The unit that is placed next; as many as there are where all are placed.
 fn next_unit(words: &[u32], l: Layout, tables: &[u32; TABLES], rows: &[u64; 52], at: Visit) -> usize
-    requires { Filed words.now l × (at.state.limit.0 ≤ MOST_LIMIT) }
-    ensures { Chosen l.units at.node.placed result }
+    requires { Filed words.now l × (at.visit.state.limit.0 ≤ MOST_LIMIT) }
+    ensures { Chosen l.units at.visit.node.placed result }
 {
-    let node = at.node;
-    let limit = at.state.limit;
-    let wanted = dual::wanted(tables, limit);
+    let node = at.visit.node;
+    let wanted = dual::wanted(tables, at.visit.state.limit);
     choice::choose(words, l, tables, rows, node.placed, wanted.less(node.bound))
 }
 
@@ -227,20 +161,13 @@ pub fn with_start(at: Visit, unit: usize, v: usize, st: State) -> Visit
     requires { (unit < 16) × (v ≤ 52) }
     ensures { IsStart at unit v st result }
 {
-    let node = at.node;
-    let mut starts = node.starts;
-    let bound = node.bound;
-    starts[unit] = v as u8;
+    let node = Node {
+        unit,
+        ..at.visit.node
+    };
     Visit {
-        node: Node {
-            starts,
-            unit,
-            bound,
-            placed: node.placed,
-        },
-        state: st,
-        order: at.order,
-        first: at.first,
+        visit: walk::with_start(node, v, st),
+        ..at
     }
 }
 
@@ -260,20 +187,16 @@ fn try_start(
     ensures answer { StartDone (problem_of words.now) table.old table.new at result }
     ensures recalls { MemoTrue (problem_of words.now) (price_in tables.now) memo.new }
 {
-    let st = at.state;
-    let node = at.node;
-    let starts = node.starts;
+    let st = at.visit.state;
+    let node = at.visit.node;
     if st.budget <= st.tries {
-        return state::stopped(st, starts, 0);
+        return state::stopped(st, node.starts, 0);
     }
     let mut next = *values;
-    let tried = judge_start(words, l, tables, rows, at, &table[..], &mut next, memo);
-    let below = tried.at;
-    let v = tried.trial;
-    match v {
-        Trial::Fails(b) => state::dead_end(below.state, b),
-        Trial::Holds(_) => {
-            let out = bound::placed_rows(words, l, rows, starts, node.unit);
+    match judge_start(words, l, tables, rows, at, &table[..], &mut next, memo) {
+        Err(b) => state::dead_end(state::tried(st), b),
+        Ok(below) => {
+            let out = bound::placed_rows(words, l, rows, node.starts, node.unit);
             place(words, l, tables, &out, &next, below, table, memo)
         }
     }
@@ -292,42 +215,27 @@ pub fn place(
     memo: &mut [u32],
 ) -> Step
     requires { PlaceDue words.now l tables.now rows.now values.now at table.old memo.old }
-    ensures answer { PlaceDone (problem_of words.now) table.old table.new at.node at.state result }
+    ensures answer { PlaceDone (problem_of words.now) table.old table.new at.visit.node at.visit.state result }
     ensures recalls { MemoTrue (problem_of words.now) (price_in tables.now) memo.new }
 {
-    let starts = at.node.starts;
-    let order = at.order;
     let unit = next_unit(words, l, tables, rows, at);
     if l.units <= unit {
         return weigh(words, l, tables, rows, values, at, memo);
     }
     let range = overhaul::starts_of(words, l, unit);
-    let last = range.last;
-    let mut s = at.state;
-    let mut blame: u32 = 0;
-    let mut v = range.first;
+    let mut s = at.visit.state;
+    let mut blame = 0;
     // Each time round, no schedule with the starts of the units to blame and a start of this unit below v is left below the limit.
-    while v <= last {
-        let step = try_start(
-            words,
-            l,
-            tables,
-            rows,
-            values,
-            with_start(at, unit, v, s),
-            table,
-            memo,
-        );
-        let turn = walk::turn_after(step, blame, unit);
-        if turn.left {
+    for v in range.first..range.last + 1 {
+        let next = with_start(at, unit, v, s);
+        let step = try_start(words, l, tables, rows, values, next, table, memo);
+        let Some(shared) = walk::turn_after(step, blame, unit) else {
             return step;
-        }
-        blame = turn.blame;
-        let q = step.state;
-        s = q;
-        v += 1;
+        };
+        blame = shared;
+        s = step.state;
     }
-    let noted = note_blame(table, s, starts, l.units, blame, order);
+    let noted = note_blame(table, s, at.visit.node.starts, l.units, blame, at.order);
     state::dead_end(noted, blame)
 }
 
@@ -335,16 +243,18 @@ pub fn place(
 
 // The visit of the root: no unit is placed, at this bound.
 pub fn root_visit(bound: Euro, st: State, first: bool) -> Visit
-    ensures { AtRoot bound.0 st result }
+    ensures { AtRoot bound.0 st result.visit }
 {
     Visit {
-        node: Node {
-            starts: [0; 16],
-            unit: 0,
-            bound,
-            placed: 0,
+        visit: walk::Visit {
+            node: Node {
+                starts: [0; 16],
+                unit: 0,
+                bound,
+                placed: 0,
+            },
+            state: st,
         },
-        state: st,
         order: 0,
         first,
     }
@@ -363,11 +273,10 @@ pub fn from_root(
     ensures answer { RootDone (problem_of words.now) table.old table.new st result }
     ensures recalls { MemoTrue (problem_of words.now) (price_in tables.now) memo.new }
 {
-    let limit = st.limit;
-    let v = bound::root(words, l, tables, limit);
+    let v = bound::root(words, l, tables, st.limit);
     match v {
-        Trial::Fails(_) => state::dead_end(st, 0),
-        Trial::Holds(bound) => {
+        Err(_) => state::dead_end(st, 0),
+        Ok(bound) => {
             let rows = bound::no_rows();
             let values = bound::first_values(tables);
             let at = root_visit(bound, st, false);

@@ -30,8 +30,7 @@ use Rattle.instance.specs.Filed.{Filed}
 use Rattle.nogood.specs.Noting.{KEPT_FREE, end_bounds, end_used, ended}
 use Rattle.nogood.specs.Stock.{Stock, Grown, DeadEnds}
 use Rattle.nogood.proofs.StockLaws.{grown_next, stock_ended, ended_room, ended_length}
-use Rattle.bound.specs.declared.Trial.{Trial}
-use Rattle.bound.specs.declared.Trial.TheVariants.{Holds, Fails}
+use Rattle.std.proofs.Common.{Result, Ok, Err}
 use Rattle.bound.specs.Tests.{Blames, AllStand, AllBlame, RootValues, Rooted, RootDue, no_start, some_startless, RunsOf, Permits}
 use Rattle.bound.proofs.RowLaws.{rows_none}
 use Rattle.state.specs.declared.State.{State}
@@ -111,9 +110,9 @@ module _ (ws : List ℕ) (l : Layout) (us w memo : List ℕ) (st : State) (d : W
   pub walk_root : RootDue ws l us st.limit.0
   walk_root = record { filed = f; dual = d.walking.dual; small = d.fresh.small }
 
-  module _ (v : Trial) (said : Rooted (problem_of ws) us st.limit.0 v) where
+  module _ (v : Result Euro ℕ) (said : Rooted (problem_of ws) us st.limit.0 v) where
     -- before any unit is placed nothing is left below the limit
-    pub walk_fails : (b : ℕ) (step : Step) → v ≡ Fails b → step ≡ dead_at st 0 → Finished (problem_of ws) w w st step
+    pub walk_fails : (b : ℕ) (step : Step) → v ≡ Err b → step ≡ dead_at st 0 → Finished (problem_of ws) w w st step
     walk_fails b step e is =
         let h : AllBlame (problem_of ws) st.limit.0 b = subst (Rooted (problem_of ws) us st.limit.0) e said in
         subst (Finished (problem_of ws) w w st) (sym is) (record {
@@ -122,7 +121,7 @@ module _ (ws : List ℕ) (l : Layout) (us w memo : List ℕ) (st : State) (d : W
         })
 
     -- no unit is placed
-    pub walk_places : (c : Euro) (rows ys : List ℕ) (at : Visit) → v ≡ Holds c → rows ≡ replicate 52 0 → RootValues us ys → AtRoot c.0 st at
+    pub walk_places : (c : Euro) (rows ys : List ℕ) (at : Visit) → v ≡ Ok c → rows ≡ replicate 52 0 → RootValues us ys → AtRoot c.0 st at
         → PlaceDue ws l us rows ys at w memo
     unfolding PlaceDue
     walk_places c rows ys at e none fronts root =

@@ -20,6 +20,7 @@ use Rattle.walk.specs.Walk.{Carried, WalkDue, Finished}
 use Rattle.walk.proofs.StateLaws.{carried_next, held_carried}
 use Rattle.probe.specs.Probe.{ProbeDue, RootDone}
 use Rattle.descent.specs.declared.Descent.{Descent}
+use Rattle.descent.specs.declared.Ending.TheVariants.{Earliest}
 use Rattle.descent.specs.Descent.{DescentDue, Descended}
 use Rattle.descent.proofs.DescentLaws.{descended_best}
 use Rattle.search.specs.declared.gaps.Outcome.{Outcome}
@@ -154,7 +155,7 @@ module _ (ws : List ℕ) (l : Layout) (us : List ℕ) (st s : State) (w memo : L
 
   module _ (w₁ : List ℕ) (r : Descent) (d : Descended (problem_of ws) w w₁ s r) where
     -- the earliest plan
-    pub plan_told : (step : Step) → r.whole ≡ true → step ≡ dead_at (improved_by r.state r.state.best s.limit) 0
+    pub plan_told : (step : Step) → r.ending ≡ Earliest → step ≡ dead_at (improved_by r.state r.state.best s.limit) 0
         → Settles (problem_of ws) w w₁ st s step
     unfolding PlanDue
     plan_told step so is = subst (Settles (problem_of ws) w w₁ st s) (sym is) (record {

@@ -8,7 +8,6 @@ ghost use Rattle.farkas.specs.Sums.{ShowsNone};
 ghost use Rattle.probe.specs.Probe.{ProbeDue};
 ghost use Rattle.search.specs.Walks.{SearchDue, OutcomeOf, GapProbed, FirstTurn, probe_of, AfterProbe, plan_turn, vain_turn, TurnOn, GapAt, GapNext, GapsEnd, GapsDone};
 
-use bound::Trial;
 use farkas::Findings;
 use instance::Euro;
 use model::Layout;
@@ -69,12 +68,12 @@ fn tries_left(left: u32, step: Step) -> u32
 // ---- gaps
 
 // What every schedule costs at least, by the bound with nobody out; the limit where nothing is below it.
-fn root_cost(v: Trial, tables: &[u32; TABLES], limit: Euro) -> Euro
+fn root_cost(v: Result<Euro, u32>, tables: &[u32; TABLES], limit: Euro) -> Euro
     ensures { result.0 ≤ limit.0 }
 {
     match v {
-        Trial::Fails(_) => limit,
-        Trial::Holds(sum) => dual::cost_below(tables, sum, limit),
+        Err(_) => limit,
+        Ok(sum) => dual::cost_below(tables, sum, limit),
     }
 }
 

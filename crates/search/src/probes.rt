@@ -9,7 +9,7 @@ ghost use Rattle.search.specs.Walks.{SearchDue, SearchDone, GoingDue, PlanDue, C
 
 use crate::gaps;
 use crate::gaps::Probes;
-use bound::Trial;
+use descent::Ending;
 use dual::Node;
 use farkas::Findings;
 use instance::Euro;
@@ -51,8 +51,8 @@ fn walk(
     let limit = st.limit;
     let v = bound::root(words, l, tables, limit);
     match v {
-        Trial::Fails(_) => state::dead_end(st, 0),
-        Trial::Holds(bound) => {
+        Err(_) => state::dead_end(st, 0),
+        Ok(bound) => {
             let rows = bound::no_rows();
             let values = bound::first_values(tables);
             let at = root_visit(bound, st);
@@ -114,7 +114,7 @@ fn solve_by_descent(
     let cost = s.limit;
     let r = descent::descend(words, l, tables, s, table, memo);
     let q = r.state;
-    if r.whole {
+    if let Ending::Earliest = r.ending {
         return tell_plan(q, cost);
     }
     last_walk(words, l, tables, st, q, table, memo)

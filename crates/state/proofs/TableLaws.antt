@@ -7,7 +7,7 @@ use lib.ListN.{length}
 use Rattle.sums.specs.NumSet.{NumSet, has, with}
 use Rattle.sums.specs.Table.{entry}
 use Rattle.nogood.specs.Noting.{nogood_for, noted_used, noted, end_used, ended}
-use Rattle.nogood.specs.declared.Scan.{Scan}
+use Rattle.std.proofs.Common.{Option}
 use Rattle.nogood.specs.Recall.{Recalled}
 use Rattle.state.specs.declared.State.{State}
 use Rattle.state.specs.declared.Walked.{Walked}
@@ -24,7 +24,7 @@ dead_end_noted_of w w' st r xs ends k b used e u t =
 -- ---- a conflict recalled
 
 -- it is met by the units of a set that has one unit more
-pub recalled_with : (w xs : List ℕ) (placed j both limit : ℕ) (h : Scan) → ((k : ℕ) → has both k ≡ with (has placed) j k)
+pub recalled_with : (w xs : List ℕ) (placed j both limit : ℕ) (h : Option ℕ) → ((k : ℕ) → has both k ≡ with (has placed) j k)
     → Recalled w xs (has both) limit h → Recalled w xs (with (has placed) j) limit h
 recalled_with w xs placed j both limit h same r = subst (λ (a : NumSet). Recalled w xs a limit h) (fun_ext same) r
 

@@ -17,15 +17,11 @@ MOST_TRIES = 4294967295
 
 -- one try more
 abbrev pub tried_once : State → State
-tried_once st =
-    record { best = st.best; mark = st.mark; ends = st.ends; found = st.found; limit = st.limit; tries = st.tries + 1; budget = st.budget; used = st.used }
+tried_once st = record st { tries = st.tries + 1 }
 
 -- the walk stops at the first k starts of xs
 abbrev pub stopped_at : State → List ℕ → ℕ → Step
-stopped_at st xs k = record {
-  state = record { best = st.best; mark = xs; ends = st.ends; found = st.found; limit = st.limit; tries = st.tries; budget = st.budget; used = st.used };
-  walked = Spent k;
-}
+stopped_at st xs k = record { state = record st { mark = xs }; walked = Spent k }
 
 -- a dead end of the units of b
 abbrev pub dead_at : State → ℕ → Step
@@ -33,23 +29,19 @@ dead_at st b = record { state = st; walked = Dead b }
 
 -- xs, at this cost, is the best so far
 abbrev pub improved_by : State → List ℕ → Euro → State
-improved_by st xs c =
-    record { best = xs; mark = st.mark; ends = st.ends; found = true; limit = c; tries = st.tries; budget = st.budget; used = st.used }
+improved_by st xs c = record st { best = xs; found = true; limit = c }
 
 -- no schedule found and no try made, under this limit and with this budget
 abbrev pub renewed_at : State → Euro → ℕ → State
-renewed_at st c budget =
-    record { best = st.best; mark = st.mark; ends = st.ends; found = false; limit = c; tries = 0; budget = budget; used = st.used }
+renewed_at st c budget = record st { found = false; limit = c; tries = 0; budget = budget }
 
 -- the same state under this limit
 abbrev pub limited_to : State → Euro → State
-limited_to st c =
-    record { best = st.best; mark = st.mark; ends = st.ends; found = st.found; limit = c; tries = st.tries; budget = st.budget; used = st.used }
+limited_to st c = record st { limit = c }
 
 -- another number of words is used, and conflicts end at other places
 abbrev pub with_table : State → List ℕ → ℕ → State
-with_table st ends used =
-    record { best = st.best; mark = st.mark; ends = ends; found = st.found; limit = st.limit; tries = st.tries; budget = st.budget; used = used }
+with_table st ends used = record st { ends = ends; used = used }
 
 -- 2 ^ 16: a word of 16 bits holds the places below it
 abbrev pub INDEXED : ℕ

@@ -9,7 +9,7 @@ ghost use Rattle.nogood.specs.Recall.{Recalled};
 ghost use Rattle.state.specs.State.{MOST_TRIES, tried_once, stopped_at, improved_by, dead_at, renewed_at, limited_to, with_table, indexed_at, DeadEndNoted, NoneNoted, EndNoted, WalkStart};
 
 use instance::Euro;
-use nogood::{CHOICE_RADIX, Scan};
+use nogood::CHOICE_RADIX;
 
 // The walk's state: the starts of the best schedule so far, the mark of a walk that stopped, for each unit where in the table the last nogood that
 // ends at it ends, the limit that a schedule has to stay below, the words of the table in use, the tries made and the most that may be made, and
@@ -27,7 +27,8 @@ pub struct State {
     pub found: bool,
 }
 
-// No schedule is left with the starts of these units; or the budget is spent, at a mark of so many starts.
+// No schedule is left with the starts of these units; or the budget is spent, at a mark of so many starts. Both are ends of a walk, and neither is a
+// failure for `?` to hand on: so it is no Result.
 #[derive(Clone, Copy)]
 pub enum Walked {
     Dead(u32),
@@ -48,19 +49,18 @@ pub fn tried(st: State) -> State
     requires { st.tries < MOST_TRIES }
     ensures { result ≡ tried_once st }
 {
-    let mut s = st;
-    s.tries = st.tries + 1;
-    s
+    State {
+        tries: st.tries + 1,
+        ..st
+    }
 }
 
 // The budget is spent: the mark is the place of the first k starts.
 pub fn stopped(st: State, starts: [u8; 16], k: usize) -> Step
     ensures { result ≡ stopped_at st starts k }
 {
-    let mut s = st;
-    s.mark = starts;
     Step {
-        state: s,
+        state: State { mark: starts, ..st },
         walked: Walked::Spent(k),
     }
 }
@@ -69,42 +69,39 @@ pub fn stopped(st: State, starts: [u8; 16], k: usize) -> Step
 pub fn improved(st: State, starts: [u8; 16], cost: Euro) -> State
     ensures { result ≡ improved_by st starts cost }
 {
-    let mut s = st;
-    s.best = starts;
-    s.found = true;
-    s.limit = cost;
-    s
+    State {
+        best: starts,
+        found: true,
+        limit: cost,
+        ..st
+    }
 }
 
 // Another number of words is used, and nogoods end at other places.
 fn with_table(st: State, ends: [u16; 16], used: usize) -> State
     ensures { result ≡ with_table st ends used }
 {
-    let mut s = st;
-    s.ends = ends;
-    s.used = used;
-    s
+    State { ends, used, ..st }
 }
 
 // A walk that has not begun, under another limit and with another budget, with the table as it stands.
 pub fn renewed(st: State, limit: Euro, budget: u32) -> State
     ensures { result ≡ renewed_at st limit budget }
 {
-    let mut s = st;
-    s.limit = limit;
-    s.tries = 0;
-    s.budget = budget;
-    s.found = false;
-    s
+    State {
+        limit,
+        tries: 0,
+        budget,
+        found: false,
+        ..st
+    }
 }
 
 // The same state under another limit.
 pub fn limited(st: State, limit: Euro) -> State
     ensures { result ≡ limited_to st limit }
 {
-    let mut s = st;
-    s.limit = limit;
-    s
+    State { limit, ..st }
 }
 
 // A dead end.
@@ -129,14 +126,7 @@ const INDEXED: usize = 65536;
 pub fn last_unit(b: u32) -> usize
     ensures { result < 16 }
 {
-    let mut i = 15;
-    while 0 < i {
-        if sets::has(b, i) {
-            return i;
-        }
-        i -= 1;
-    }
-    0
+    (0..16).rev().find(|i| sets::has(b, *i)).unwrap_or(0)
 }
 
 // The places where nogoods end, with one more that ends at unit i. They decide which nogoods are looked at, and nothing rests on them.
@@ -159,14 +149,13 @@ fn indexed_word(ends: [u16; 16], word: u32, end: usize) -> [u16; 16]
     if words::kind_of(word) != 14 {
         return ends;
     }
-    let unit = words::value_of(word) / CHOICE_RADIX;
-    if unit == 0 {
+    let Some(unit) = (words::value_of(word) / CHOICE_RADIX).checked_sub(1) else {
+        return ends;
+    };
+    if 15 < unit {
         return ends;
     }
-    if 16 < unit {
-        return ends;
-    }
-    indexed(ends, unit - 1, end)
+    indexed(ends, unit, end)
 }
 
 // For each unit, the place after the last choice of it in the table: there the last nogood that ends at it ends, or a later one goes on.
@@ -176,6 +165,7 @@ fn index(table: &[u32], used: usize) -> [u16; 16]
 {
     let mut ends: [u16; 16] = [0; 16];
     for i in 0..used {
+        // By way of a variable: the check covers no call whose result is laid in an array that it holds.
         let next = indexed_word(ends, table[i], i + 1);
         ends = next;
     }
@@ -184,21 +174,13 @@ fn index(table: &[u32], used: usize) -> [u16; 16]
 
 // A nogood that begins in the words before the place where the last one ends that ends at unit j, of which the starts of unit j and of the units
 // placed have all choices, and whose bound is at or above the walk's own (D58).
-pub fn recalled(table: &[u32], st: State, starts: [u8; 16], placed: u32, j: usize) -> Scan
+pub fn recalled(table: &[u32], st: State, starts: [u8; 16], placed: u32, j: usize) -> Option<u32>
     requires { j < 16 }
     ensures { Recalled table.now starts (with (has placed) j) st.limit.0 result }
 {
-    let ends = st.ends;
-    let limit = st.limit;
-    let to = words::min(ends[j] as usize, table.len());
-    nogood::recall(
-        table,
-        to - words::min(to, WINDOW),
-        to,
-        starts,
-        sets::with(placed, j),
-        limit.0,
-    )
+    let to = (st.ends[j] as usize).min(table.len());
+    let from = to.saturating_sub(WINDOW);
+    nogood::recall(table, from, to, starts, sets::with(placed, j), st.limit.0)
 }
 
 // Notes that the starts of the units of b, all below k, are a dead end below the state's limit, where there is space. It is found again at the unit
@@ -214,15 +196,11 @@ pub fn note_dead_end(
     requires { (st.used ≤ length table.old) × (k ≤ 16) × (st.limit.0 ≤ MOST_LIMIT) × (last < 16) }
     ensures { DeadEndNoted table.old table.new st result starts k b }
 {
-    let limit = st.limit;
-    let used = st.used;
-    let ends = st.ends;
-    let more = nogood::note(table, used, starts, k, b, limit.0);
-    if more == used {
+    let used = nogood::note(table, st.used, starts, k, b, st.limit.0);
+    if used == st.used {
         return st;
     }
-    let next = indexed(ends, last, more);
-    with_table(st, next, more)
+    with_table(st, indexed(st.ends, last, used), used)
 }
 
 // Notes the nogood without choices under the state's last bound.
@@ -230,11 +208,8 @@ fn note_none(table: &mut [u32], st: State) -> State
     requires { (st.used < length table.old) × (st.limit.0 ≤ MOST_LIMIT) }
     ensures { NoneNoted table.old table.new st result }
 {
-    let limit = st.limit;
-    let used = st.used;
-    let ends = st.ends;
-    let more = nogood::conclude(table, used, limit.0);
-    with_table(st, ends, more)
+    let used = nogood::conclude(table, st.used, st.limit.0);
+    with_table(st, st.ends, used)
 }
 
 // The same where a walk has ended unspent.
@@ -255,15 +230,14 @@ pub fn fresh(ceiling: u32, budget: u32, table: &[u32], used: usize) -> State
     requires { (ceiling < MOST_LIMIT) × (used ≤ length table.now) }
     ensures { WalkStart ceiling budget used result }
 {
-    let ends = index(table, used);
     State {
         best: [0; 16],
         mark: [0; 16],
-        ends,
-        found: false,
+        ends: index(table, used),
         limit: Euro(ceiling as u64 + 1),
+        used,
         tries: 0,
         budget,
-        used,
+        found: false,
     }
 }

@@ -2,22 +2,18 @@
 -- Assumes nothing.
 use Prim.Native.Nat.{ℕ, suc, ◌+◌, ◌*◌, ◌-◌, ◌≤◌, ◌<◌}
 use mathlib.Core.Path.{◌≡◌, refl, sym, ◌∙◌, ap, subst, subst₂}
-use mathlib.Core.Bool.{Bool, true, false}
 use mathlib.Core.List.{List}
 use native.Mathlib.Nat.{le_trans}
 use native.Mathlib.Omega.{arith}
 use lib.ListN.{length, set}
 use borrow.Author.Tests.{ltb-true, lt-ltb}
-use Rattle.sums.specs.NumSet.{has}
 use Rattle.sums.specs.Table.{entry}
-use Rattle.sums.proofs.LogicLaws.{true_false}
 use Rattle.model.specs.declared.Layout.{Layout}
 use Rattle.model.specs.Problem.{Problem}
 use Rattle.model.specs.Prefix.{tree_size}
 use Rattle.model.specs.Nogood.{MOST_LIMIT}
 use Rattle.model.specs.Words.{problem_of}
 use Rattle.model.proofs.FileLaws.{fair}
-use Rattle.instance.specs.declared.Euro.{Euro}
 use Rattle.instance.specs.Filed.{Filed}
 use Rattle.overhaul.specs.Range.{StartRange}
 use Rattle.nogood.proofs.StockLaws.{stock_within}
@@ -25,23 +21,20 @@ use Rattle.tables.specs.Tables.{price_in}
 use Rattle.relaxation.specs.Relaxed.{MemoTrue}
 use Rattle.dual.specs.declared.Node.{Node}
 use Rattle.dual.specs.Blame.{IsNext}
-use Rattle.bound.specs.declared.Trial.{Trial}
-use Rattle.bound.specs.declared.Trial.TheVariants.{Holds, Fails}
+use Rattle.std.proofs.Common.{Option, Some, None, Result, Ok, Err}
 use Rattle.bound.specs.Rows.{RowsDue, RowsWith}
-use Rattle.bound.specs.Tests.{Judged}
 use Rattle.state.specs.declared.State.{State}
 use Rattle.state.specs.declared.Step.{Step}
 use Rattle.state.specs.declared.Walked.{Walked}
 use Rattle.state.specs.declared.Walked.TheVariants.{Dead, Spent}
 use Rattle.state.specs.State.{tried_once, stopped_at, dead_at, DeadEndNoted}
 use Rattle.walk.specs.declared.Visit.{Visit}
-use Rattle.walk.specs.declared.Turn.{Turn}
-use Rattle.walk.specs.declared.Tried.{Tried}
-use Rattle.walk.specs.Walk.{IsStart, Open, Walking, PlaceDue, TryNeeds, TryDue, Judging, TryJudged, GoesTo, Deeper, TryTaken, PlaceDone, TryDone, LeavesUnit, GoesOn, Shares, TurnOf, Done, try_room, place_room, LeafDue, Leaf}
+use Rattle.walk.specs.Walk.{IsStart, Open, Walking, PlaceDue, TryNeeds, TryDue, Judging, Taken, TryTaken, PlaceDone, TryDone, LeavesUnit, GoesOn, TurnOf, Done, try_room, place_room, LeafDue, Leaf}
 use Rattle.walk.proofs.StateLaws.{held_later}
 use Rattle.walk.proofs.PlaceLaws.{places_to_try, places_to_place}
 use Rattle.walk.proofs.NotedLaws.{later_noted}
 use Rattle.walk.proofs.TryLaws.{done_stopped, done_fails, opened, done_leaf, done_place}
+use Rattle.walk.proofs.JudgedLaws.{try_few}
 use Rattle.walk.proofs.UnitLaws.{Trying, trying_none, some_start, untried, done_spent, done_jump, trying_more, done_all}
 
 -- the same file and table, with a memo that has changed
@@ -51,20 +44,22 @@ walking_on ws l us memo memo' h r = record { filed = h.filed; dual = h.dual; rec
 
 -- ---- a unit is placed
 
--- a unit was open in a state and with a table; its starts from the first to the last are tried, and those below v have failed
-pub record Starting (ws : List ℕ) (l : Layout) (us rows ys : List ℕ) (node : Node) (st : State) (w : List ℕ) (first last : ℕ) (w₁ : List ℕ) (s : State)
+-- a unit was open in a state and with a table; its starts from the first to before the end are tried, and those below v have failed
+pub record Starting (ws : List ℕ) (l : Layout) (us rows ys : List ℕ) (node : Node) (st : State) (w : List ℕ) (first end : ℕ) (w₁ : List ℕ) (s : State)
     (blame v : ℕ) (memo : List ℕ) : Type 0 where
   pub walking : Walking ws l us memo
   pub open_at : Open (problem_of ws) w us rows ys node st
   pub inside : node.unit < (problem_of ws).units
+  pub last : ℕ
+  pub to_last : end ≡ last + 1
   pub range : StartRange (problem_of ws) node.unit first last
   pub ends : last ≤ (problem_of ws).weeks
   pub trying : Trying (problem_of ws) w w₁ node.starts node.unit st s blame first v
 
 -- as one fact
-unfoldable pub Starts : (ws : List ℕ) → Layout → (us rows ys : List ℕ) → Node → State → (w : List ℕ) → (first last : ℕ) → (w₁ : List ℕ) → State
+unfoldable pub Starts : (ws : List ℕ) → Layout → (us rows ys : List ℕ) → Node → State → (w : List ℕ) → (first end : ℕ) → (w₁ : List ℕ) → State
     → (blame v : ℕ) → (memo : List ℕ) → Type 0
-Starts ws l us rows ys node st w first last w₁ s blame v memo = Starting ws l us rows ys node st w first last w₁ s blame v memo
+Starts ws l us rows ys node st w first end w₁ s blame v memo = Starting ws l us rows ys node st w first end w₁ s blame v memo
 
 module _ (ws : List ℕ) (l : Layout) (us rows ys : List ℕ) (at : Visit) (w memo : List ℕ) (d : PlaceDue ws l us rows ys at w memo) where
   abbrev p : Problem
@@ -100,9 +95,13 @@ module _ (ws : List ℕ) (l : Layout) (us rows ys : List ℕ) (at : Visit) (w me
   place_weighed step last h =
       done_leaf (problem_of ws) w us rows ys at.node at.state d.open_at (fair ws f.passed) (omega (arith, d.open_at.unit, f.units_are)) step h
 
+  -- the number after its last start fits a word
+  pub place_fits : (last : ℕ) → last ≤ l.weeks → last + 1 < 18446744073709551616
+  place_fits last ends = omega (arith, f.weeks_most)
+
   -- no start was tried
   pub place_starts : (first last : ℕ) → at.node.unit < l.units → StartRange (problem_of ws) at.node.unit first last → last ≤ l.weeks
-      → Starts ws l us rows ys at.node at.state w first last w at.state 0 first memo
+      → Starts ws l us rows ys at.node at.state w first (last + 1) w at.state 0 first memo
   unfolding PlaceDue Starts
   place_starts first last inside range ends =
       let in_units : at.node.unit < p.units = omega (arith, f.units_are) in
@@ -110,13 +109,15 @@ module _ (ws : List ℕ) (l : Layout) (us rows ys : List ℕ) (at : Visit) (w me
         walking = d.walking;
         open_at = d.open_at;
         inside = in_units;
+        last = last;
+        to_last = refl;
         range = range;
         ends = omega (arith, f.weeks_are);
         trying = trying_none p w us rows ys at.node at.state first last range in_units d.open_at;
       }
 
-module _ (ws : List ℕ) (l : Layout) (us rows ys : List ℕ) (node : Node) (st : State) (w : List ℕ) (first last : ℕ) (w₁ : List ℕ) (s : State)
-    (blame v : ℕ) (memo₁ : List ℕ) (h : Starts ws l us rows ys node st w first last w₁ s blame v memo₁) where
+module _ (ws : List ℕ) (l : Layout) (us rows ys : List ℕ) (node : Node) (st : State) (w : List ℕ) (first end : ℕ) (w₁ : List ℕ) (s : State)
+    (blame v : ℕ) (memo₁ : List ℕ) (h : Starts ws l us rows ys node st w first end w₁ s blame v memo₁) where
   abbrev prob : Problem
   prob = problem_of ws
 
@@ -134,14 +135,9 @@ module _ (ws : List ℕ) (l : Layout) (us rows ys : List ℕ) (node : Node) (st 
   starts_small = omega (arith, starts_few)
 
   -- a start is one of 52
-  pub starts_within : v ≤ last → v ≤ 52
+  pub starts_within : v < end → v ≤ 52
   unfolding Starts TryDue TryDone PlaceDone
-  starts_within here = omega (arith, h.ends, h.walking.filed.weeks_are, h.walking.filed.weeks_most)
-
-  -- so the next one fits a word
-  pub starts_fit : v ≤ last → v + 1 < 18446744073709551616
-  unfolding Starts TryDue TryDone PlaceDone
-  starts_fit here = omega (arith, starts_within here)
+  starts_within here = omega (arith, h.to_last, h.ends, h.walking.filed.weeks_are, h.walking.filed.weeks_most)
 
   -- a dead end can be noted
   pub starts_used : s.used ≤ length w₁
@@ -161,24 +157,24 @@ module _ (ws : List ℕ) (l : Layout) (us rows ys : List ℕ) (node : Node) (st 
   starts_recalls = h.walking.recalls
 
   -- all starts have failed, and the dead end was noted or not
-  pub starts_done : (w₂ : List ℕ) (r : State) (step : Step) → last < v → DeadEndNoted w₁ w₂ s r node.starts node.unit blame
+  pub starts_done : (w₂ : List ℕ) (r : State) (step : Step) → end ≤ v → DeadEndNoted w₁ w₂ s r node.starts node.unit blame
       → step ≡ dead_at r blame → PlaceDone (problem_of ws) w w₂ node st step
   unfolding Starts TryDue TryDone PlaceDone
   starts_done w₂ r step ended k is =
       subst (PlaceDone prob w w₂ node st) (sym is)
-      (done_all prob w w₁ us rows ys node st s blame first last v h.range h.inside h.open_at t ended w₂ r
+      (done_all prob w w₁ us rows ys node st s blame first h.last v h.range h.inside h.open_at t (omega (arith, h.to_last)) w₂ r
       (λ closed. later_noted prob w₁ w₂ s r node.starts node.unit blame (omega (arith, h.inside)) (le_trans t.later.falls
       h.open_at.small) (λ i b. h.open_at.stands.standing.permits i (h.open_at.order.each i ∙ lt-ltb i node.unit (t.under i b))) t.under closed k)
       (ap (λ (x : State). x.limit) k.state) (ap (λ (x : State). x.tries) k.state) (ap (λ (x : State). x.found) k.state)
       (ap (λ (x : State). x.best) k.state) (ap (λ (x : State). x.budget) k.state))
 
-  module _ (here : v ≤ last) (next : Visit) (start : IsStart node v s next) where
+  module _ (here : v < end) (next : Visit) (start : IsStart node v s next) where
     -- the next start is tried
     pub starts_try : TryDue ws l us rows ys next w₁ memo₁
     unfolding Starts TryDue
     starts_try = subst (λ (x : Visit). TryNeeds ws l us rows ys x w₁ memo₁) (sym start.is) (record {
       walking = h.walking;
-      untried = untried prob w w₁ us rows ys node st s blame first last v h.range h.ends h.inside h.open_at t here;
+      untried = untried prob w w₁ us rows ys node st s blame first h.last v h.range h.ends h.inside h.open_at t (omega (arith, h.to_last));
     })
 
     -- with fewer places at and below it
@@ -189,85 +185,66 @@ module _ (ws : List ℕ) (l : Layout) (us rows ys : List ℕ) (node : Node) (st 
         subst (λ (x : Visit). 2 * tree_size prob (prob.units - suc x.node.unit) < n) (sym start.is)
         (subst (λ (x : ℕ). 2 * tree_size prob (prob.units - suc node.unit) < x) e
         (places_to_try prob node.unit h.inside
-        (some_start prob w w₁ us rows ys node st s blame first last v h.range h.ends h.inside h.open_at t here)))
+        (some_start prob w w₁ us rows ys node st s blame first h.last v h.range h.ends h.inside h.open_at t (omega (arith, h.to_last)))))
 
-    module _ (w₂ : List ℕ) (step : Step) (done : TryDone (problem_of ws) w₁ w₂ next step) (turn : Turn) (told : TurnOf step blame node.unit turn) where
+    module _ (w₂ : List ℕ) (step : Step) (done : TryDone (problem_of ws) w₁ w₂ next step) (turn : Option ℕ) (told : TurnOf step blame node.unit turn) where
       own : Done (problem_of ws) w₁ w₂ (set node.starts node.unit v) (node.unit + 1) (try_room (problem_of ws) node.unit) s step
       unfolding TryDone
       own = subst (λ (x : Visit). TryDone prob w₁ w₂ x step) start.is done
 
       -- the budget is spent, or the unit has no share in the dead end: the walk jumps back
-      left : turn.left ≡ true → PlaceDone (problem_of ws) w w₂ node st step
+      left : turn ≡ None → PlaceDone (problem_of ws) w w₂ node st step
       unfolding Starts PlaceDone
-      left so = go step.walked refl (told.leaves so)
+      left so = go step.walked refl (subst (TurnOf step blame node.unit) so told)
         where
           go : (k : Walked) → step.walked ≡ k → LeavesUnit node.unit k
               → Done (problem_of ws) w w₂ node.starts node.unit (place_room (problem_of ws) node.unit) st step
           go (Spent m) e _ =
-              done_spent prob w w₁ us rows ys node st s blame first last v h.range h.ends h.inside h.open_at t here w₂ step own m e
+              done_spent prob w w₁ us rows ys node st s blame first h.last v h.range h.ends h.inside h.open_at t (omega (arith, h.to_last)) w₂ step own m e
           go (Dead b) e free =
-              done_jump prob w w₁ us rows ys node st s blame first last v h.range h.ends h.inside h.open_at t here w₂ step own b e free
+              done_jump prob w w₁ us rows ys node st s blame first h.last v h.range h.ends h.inside h.open_at t (omega (arith, h.to_last)) w₂ step own b e free
 
       -- it shares it: the next start
-      next_start : (memo₂ : List ℕ) → turn.left ≡ false → MemoTrue (problem_of ws) (price_in us) memo₂
-          → Starts ws l us rows ys node st w first last w₂ step.state turn.blame (v + 1) memo₂
+      next_start : (memo₂ : List ℕ) (both : ℕ) → turn ≡ Some both → MemoTrue (problem_of ws) (price_in us) memo₂
+          → Starts ws l us rows ys node st w first end w₂ step.state both (v + 1) memo₂
       unfolding Starts
-      next_start memo₂ so recalls = go step.walked refl (told.goes_on so)
+      next_start memo₂ both so recalls = go step.walked refl (subst (TurnOf step blame node.unit) so told)
         where
-          go : (k : Walked) → step.walked ≡ k → GoesOn blame node.unit turn.blame k
-              → Starting ws l us rows ys node st w first last w₂ step.state turn.blame (v + 1) memo₂
+          go : (k : Walked) → step.walked ≡ k → GoesOn blame node.unit both k
+              → Starting ws l us rows ys node st w first end w₂ step.state both (v + 1) memo₂
           go (Spent m) e x = absurd x
           go (Dead b) e union = record {
             walking = walking_on ws l us memo₁ memo₂ h.walking recalls;
             open_at = h.open_at;
             inside = h.inside;
+            last = h.last;
+            to_last = h.to_last;
             range = h.range;
             ends = h.ends;
-            trying = trying_more prob w w₁ us rows ys node st s blame first last v h.range h.ends h.inside h.open_at t here w₂ step own b e
-                turn.blame union.sets;
+            trying = trying_more prob w w₁ us rows ys node st s blame first h.last v h.range h.ends h.inside h.open_at t (omega (arith, h.to_last)) w₂ step own b e
+                both union.sets;
           }
 
 -- the same two with the facts that a search tells apart first
-pub starts_left : (ws : List ℕ) (l : Layout) (us rows ys : List ℕ) (node : Node) (st : State) (w : List ℕ) (first last : ℕ) (w₁ : List ℕ) (s : State)
-    (blame v : ℕ) (memo₁ : List ℕ) (next : Visit) (w₂ : List ℕ) (step : Step) (turn : Turn)
-    → Starts ws l us rows ys node st w first last w₁ s blame v memo₁ → IsStart node v s next → TryDone (problem_of ws) w₁ w₂ next step
-    → TurnOf step blame node.unit turn → v ≤ last → turn.left ≡ true → PlaceDone (problem_of ws) w w₂ node st step
-starts_left ws l us rows ys node st w first last w₁ s blame v memo₁ next w₂ step turn h start done told here =
-    left ws l us rows ys node st w first last w₁ s blame v memo₁ h here next start w₂ step done turn told
+pub starts_left : (ws : List ℕ) (l : Layout) (us rows ys : List ℕ) (node : Node) (st : State) (w : List ℕ) (first end : ℕ) (w₁ : List ℕ) (s : State)
+    (blame v : ℕ) (memo₁ : List ℕ) (next : Visit) (w₂ : List ℕ) (step : Step) (turn : Option ℕ)
+    → Starts ws l us rows ys node st w first end w₁ s blame v memo₁ → IsStart node v s next → TryDone (problem_of ws) w₁ w₂ next step
+    → TurnOf step blame node.unit turn → v < end → turn ≡ None → PlaceDone (problem_of ws) w w₂ node st step
+starts_left ws l us rows ys node st w first end w₁ s blame v memo₁ next w₂ step turn h start done told here =
+    left ws l us rows ys node st w first end w₁ s blame v memo₁ h here next start w₂ step done turn told
 
-pub starts_next : (ws : List ℕ) (l : Layout) (us rows ys : List ℕ) (node : Node) (st : State) (w : List ℕ) (first last : ℕ) (w₁ : List ℕ) (s : State)
-    (blame v : ℕ) (memo₁ : List ℕ) (next : Visit) (w₂ : List ℕ) (step : Step) (turn : Turn) (memo₂ : List ℕ)
-    → Starts ws l us rows ys node st w first last w₁ s blame v memo₁ → IsStart node v s next → TryDone (problem_of ws) w₁ w₂ next step
-    → TurnOf step blame node.unit turn → MemoTrue (problem_of ws) (price_in us) memo₂ → v ≤ last → turn.left ≡ false
-    → Starts ws l us rows ys node st w first last w₂ step.state turn.blame (v + 1) memo₂
-starts_next ws l us rows ys node st w first last w₁ s blame v memo₁ next w₂ step turn memo₂ h start done told recalls here so =
-    next_start ws l us rows ys node st w first last w₁ s blame v memo₁ h here next start w₂ step done turn told memo₂ so recalls
+pub starts_next : (ws : List ℕ) (l : Layout) (us rows ys : List ℕ) (node : Node) (st : State) (w : List ℕ) (first end : ℕ) (w₁ : List ℕ) (s : State)
+    (blame v : ℕ) (memo₁ : List ℕ) (next : Visit) (w₂ : List ℕ) (step : Step) (turn : Option ℕ) (both : ℕ) (memo₂ : List ℕ)
+    → Starts ws l us rows ys node st w first end w₁ s blame v memo₁ → IsStart node v s next → TryDone (problem_of ws) w₁ w₂ next step
+    → TurnOf step blame node.unit turn → MemoTrue (problem_of ws) (price_in us) memo₂ → v < end → turn ≡ Some both
+    → Starts ws l us rows ys node st w first end w₂ step.state both (v + 1) memo₂
+starts_next ws l us rows ys node st w first end w₁ s blame v memo₁ next w₂ step turn both memo₂ h start done told recalls here so =
+    next_start ws l us rows ys node st w first end w₁ s blame v memo₁ h here next start w₂ step done turn told memo₂ both so recalls
 
 -- a table keeps its length
 pub place_long : (p : Problem) (w₀ w w' : List ℕ) (at : Visit) (step : Step) → TryDone p w w' at step → length w ≡ length w₀ → length w' ≡ length w₀
 unfolding TryDone
 place_long p w₀ w w' at step d e = d.later.carried.long ∙ e
-
--- what follows on a start, by how the walk came back from it
-module _ (step : Step) (blame j : ℕ) (w : Walked) (is : step.walked ≡ w) where
-  pub turn_spent : (m : ℕ) (turn : Turn) → w ≡ Spent m → turn.left ≡ true → TurnOf step blame j turn
-  turn_spent m turn e so = record {
-    leaves = λ _. subst (LeavesUnit j) (sym (is ∙ e)) tt;
-    goes_on = λ z. true_false (sym so ∙ z);
-  }
-
-  pub turn_shared : (b both : ℕ) (shares : Bool) (turn : Turn) → w ≡ Dead b → Shares blame b j both → turn.left ≡ false → turn.blame ≡ both
-      → TurnOf step blame j turn
-  turn_shared b both shares turn e union so eb = record {
-    leaves = λ z. true_false (sym z ∙ so);
-    goes_on = λ _. subst (GoesOn blame j turn.blame) (sym (is ∙ e)) (subst (Shares blame b j) (sym eb) union);
-  }
-
-  pub turn_free : (b : ℕ) (shares : Bool) (turn : Turn) → w ≡ Dead b → shares ≡ has b j → shares ≡ false → turn.left ≡ true → TurnOf step blame j turn
-  turn_free b shares turn e q free so = record {
-    leaves = λ _. subst (LeavesUnit j) (sym (is ∙ e)) (sym q ∙ free);
-    goes_on = λ z. true_false (sym so ∙ z);
-  }
 
 -- ---- a start is tried
 
@@ -286,15 +263,10 @@ module _ (ws : List ℕ) (l : Layout) (us rows ys : List ℕ) (at : Visit) (w me
   unfolding TryDue
   try_long = sym d.untried.stands.bounds.values.long
 
-  -- its unit is one of sixteen
-  pub try_few : at.node.unit < 16
-  unfolding TryDue PlaceDue TryDone PlaceDone
-  try_few = omega (arith, d.untried.unit, file.units_are, file.units_most)
-
   -- the next unit's number fits a word
   pub try_fits : at.node.unit + 1 < 18446744073709551616
   unfolding TryDue PlaceDue TryDone PlaceDone
-  try_fits = omega (arith, try_few)
+  try_fits = let few = try_few ws l us rows ys at w memo d in omega arith
 
   -- the budget is spent
   pub try_stops : (k : ℕ) (step : Step) → k ≡ at.node.unit + 1 → at.state.budget ≤ at.state.tries
@@ -303,97 +275,66 @@ module _ (ws : List ℕ) (l : Layout) (us rows ys : List ℕ) (at : Visit) (w me
   try_stops k step e h is =
       subst (TryDone (problem_of ws) w w at) (sym is) (done_stopped (problem_of ws) w us rows ys at.node at.state d.untried k e h)
 
--- where the walk goes on after a verdict
-pub deeper_fails : (at : Visit) (v : Trial) (b : ℕ) (s : State) (r : Tried) → s ≡ tried_once at.state → v ≡ Fails b → r.trial ≡ Fails b
-    → r.at.node ≡ at.node → r.at.state ≡ s → Deeper at v r
-deeper_fails at v b s r es e et en est =
-    record { trial_is = et ∙ sym e; node_is = subst (λ (x : Trial). GoesTo at.node x r.at.node) (sym e) en; state_is = est ∙ es }
+-- it fails
+pub taken_fails : (ws : List ℕ) (l : Layout) (us rows ys : List ℕ) (at : Visit) (w memo zs memo₁ : List ℕ) (r : Result Visit ℕ)
+    → TryTaken ws l us rows ys at w memo zs memo₁ r → (b : ℕ) (s : State) (step : Step) → r ≡ Err b → s ≡ tried_once at.state → step ≡ dead_at s b
+    → TryDone (problem_of ws) w w at step
+unfolding TryTaken TryDone
+taken_fails ws l us rows ys at w memo zs memo₁ r j b s step t es is =
+    let d : Judging ws l us rows ys at w memo zs memo₁ (Err b) = subst (TryTaken ws l us rows ys at w memo zs memo₁) t j in
+    subst (TryDone (problem_of ws) w w at) (sym (is ∙ ap (λ (x : State). dead_at x b) es))
+    (done_fails (problem_of ws) w us rows ys at.node at.state d.due.untried b d.said)
 
-pub deeper_holds : (at : Visit) (v : Trial) (c : Euro) (s : State) (node : Node) (r : Tried) → s ≡ tried_once at.state → IsNext at.node c node
-    → v ≡ Holds c → r.trial ≡ Holds c → r.at.node ≡ node → r.at.state ≡ s → Deeper at v r
-deeper_holds at v c s node r es next e et en est = record {
-  trial_is = et ∙ sym e;
-  node_is = subst (λ (x : Trial). GoesTo at.node x r.at.node) (sym e) (subst (IsNext at.node c) (sym en) next);
-  state_is = est ∙ es;
-}
+pub taken_dead_recalls : (ws : List ℕ) (l : Layout) (us rows ys : List ℕ) (at : Visit) (w memo zs memo₁ : List ℕ) (r : Result Visit ℕ) (b : ℕ)
+    → TryTaken ws l us rows ys at w memo zs memo₁ r → r ≡ Err b → MemoTrue (problem_of ws) (price_in us) memo₁
+unfolding TryTaken
+taken_dead_recalls ws l us rows ys at w memo zs memo₁ r b j t =
+    let d : Judging ws l us rows ys at w memo zs memo₁ (Err b) = subst (TryTaken ws l us rows ys at w memo zs memo₁) t j in d.recalls
 
--- the start is judged within the budget
-module _ (ws : List ℕ) (l : Layout) (us rows ys : List ℕ) (at : Visit) (w memo zs memo₁ : List ℕ) (v : Trial)
-    (j : TryJudged ws l us rows ys at w memo zs memo₁ v) where
-  -- its unit is one of sixteen
-  pub judged_few : at.node.unit < 16
-  unfolding TryJudged
-  judged_few = omega (arith, j.due.untried.unit, j.due.walking.filed.units_are, j.due.walking.filed.units_most)
-
-  pub judged_taken : (r : Tried) → Deeper at v r → TryTaken ws l us rows ys at w memo zs memo₁ r
-  unfolding TryJudged TryTaken
-  judged_taken r d = record {
-    judging = subst (Judging ws l us rows ys at w memo zs memo₁) (sym d.trial_is) j;
-    node_is = subst (λ (x : Trial). GoesTo at.node x r.at.node) (sym d.trial_is) d.node_is;
-    state_is = d.state_is;
-  }
-
-module _ (ws : List ℕ) (l : Layout) (us rows ys : List ℕ) (at : Visit) (w memo zs memo₁ : List ℕ) (r : Tried)
-    (j : TryTaken ws l us rows ys at w memo zs memo₁ r) where
-  its_file : Filed ws l
+-- it holds
+module _ (ws : List ℕ) (l : Layout) (us rows ys : List ℕ) (at : Visit) (w memo zs memo₁ : List ℕ) (r : Result Visit ℕ)
+    (j : TryTaken ws l us rows ys at w memo zs memo₁ r) (next : Visit) (is : r ≡ Ok next) where
+  taken : Taken ws l us rows ys at w memo zs memo₁ next
   unfolding TryTaken
-  its_file = j.judging.due.walking.filed
+  taken = subst (TryTaken ws l us rows ys at w memo zs memo₁) is j
+
+  goes : IsNext at.node taken.bound next.node
+  goes = taken.goes.node_is
 
   -- the file, and the memo as it recalls now
   pub taken_filed : Filed ws l
-  taken_filed = its_file
+  taken_filed = taken.judging.due.walking.filed
 
   pub taken_recalls : MemoTrue (problem_of ws) (price_in us) memo₁
-  unfolding TryTaken
-  taken_recalls = j.judging.recalls
+  taken_recalls = taken.judging.recalls
 
   -- what its rows ask
   pub taken_rows : RowsDue (problem_of ws) rows (entry at.node.starts) at.node.unit
-  unfolding TryTaken
   taken_rows =
-      let u = j.judging.due.untried in
+      let u = taken.judging.due.untried in
       record { unit = u.unit; permits = u.permits; long = u.tallied.long; tallies = u.tallied.tallies }
 
-  -- it fails
-  pub taken_fails : (b : ℕ) (s : State) (step : Step) → r.trial ≡ Fails b → s ≡ r.at.state → step ≡ dead_at s b → TryDone (problem_of ws) w w at step
-  unfolding TryTaken TryDone
-  taken_fails b s step t es is =
-      let g : s ≡ tried_once at.state = es ∙ j.state_is in
-      subst (TryDone (problem_of ws) w w at) (sym (is ∙ ap (λ (x : State). dead_at x b) g))
-      (done_fails (problem_of ws) w us rows ys at.node at.state j.judging.due.untried b
-      (subst (Judged (problem_of ws) us at.node at.state.limit.0 zs) t j.judging.said))
+  -- the next unit is to be placed
+  pub taken_places : (out : List ℕ) → RowsWith (problem_of ws) rows (entry at.node.starts) at.node.unit out
+      → PlaceDue ws l us out zs next w memo₁
+  unfolding PlaceDue
+  taken_places out tallied = record {
+    walking = walking_on ws l us memo memo₁ taken.judging.due.walking taken.judging.recalls;
+    open_at = subst (Open (problem_of ws) w us out zs next.node) (sym taken.goes.state_is)
+        (opened (problem_of ws) w us rows ys at.node at.state taken.judging.due.untried out zs taken.bound next.node goes taken.judging.said tallied);
+  }
 
-  module _ (c : Euro) (e : r.trial ≡ Holds c) where
-    next : IsNext at.node c r.at.node
-    unfolding TryTaken
-    next = subst (λ (x : Trial). GoesTo at.node x r.at.node) e j.node_is
+  -- with fewer places below it
+  pub taken_falls : (n : ℕ) → 2 * tree_size (problem_of ws) ((problem_of ws).units - suc at.node.unit) ≡ n
+      → 2 * tree_size (problem_of ws) ((problem_of ws).units - next.node.unit) - 1 < n
+  taken_falls n en =
+      subst (λ (x : Node). 2 * tree_size (problem_of ws) ((problem_of ws).units - x.unit) - 1 < n) (sym goes.is)
+      (subst (λ (x : ℕ). 2 * tree_size (problem_of ws) ((problem_of ws).units - (at.node.unit + 1)) - 1 < x) en
+      (places_to_place (problem_of ws) at.node.unit))
 
-    counted : r.at.state ≡ tried_once at.state
-    unfolding TryTaken
-    counted = j.state_is
-
-    -- it holds, and the next unit is to be placed
-    pub taken_places : (out : List ℕ) → RowsWith (problem_of ws) rows (entry at.node.starts) at.node.unit out
-        → PlaceDue ws l us out zs r.at w memo₁
-    unfolding TryTaken PlaceDue
-    taken_places out tallied = record {
-      walking = walking_on ws l us memo memo₁ j.judging.due.walking j.judging.recalls;
-      open_at = subst (Open (problem_of ws) w us out zs r.at.node) (sym counted)
-          (opened (problem_of ws) w us rows ys at.node at.state j.judging.due.untried out zs c r.at.node next
-          (subst (Judged (problem_of ws) us at.node at.state.limit.0 zs) e j.judging.said) tallied);
-    }
-
-    -- with fewer places below it
-    pub taken_falls : (n : ℕ) → 2 * tree_size (problem_of ws) ((problem_of ws).units - suc at.node.unit) ≡ n
-        → 2 * tree_size (problem_of ws) ((problem_of ws).units - r.at.node.unit) - 1 < n
-    taken_falls n en =
-        subst (λ (x : Node). 2 * tree_size (problem_of ws) ((problem_of ws).units - x.unit) - 1 < n) (sym next.is)
-        (subst (λ (x : ℕ). 2 * tree_size (problem_of ws) ((problem_of ws).units - (at.node.unit + 1)) - 1 < x) en
-        (places_to_place (problem_of ws) at.node.unit))
-
-    -- it was
-    pub taken_placed : (w₂ : List ℕ) (step : Step) → PlaceDone (problem_of ws) w w₂ r.at.node r.at.state step → TryDone (problem_of ws) w w₂ at step
-    unfolding TryDone PlaceDone
-    taken_placed w₂ step done =
-        done_place (problem_of ws) w w₂ at.node.starts at.node.unit at.state step
-        (subst₂ (λ (x : Node) (s : State). PlaceDone (problem_of ws) w w₂ x s step) next.is counted done)
+  -- it was
+  pub taken_placed : (w₂ : List ℕ) (step : Step) → PlaceDone (problem_of ws) w w₂ next.node next.state step → TryDone (problem_of ws) w w₂ at step
+  unfolding TryDone PlaceDone
+  taken_placed w₂ step done =
+      done_place (problem_of ws) w w₂ at.node.starts at.node.unit at.state step
+      (subst₂ (λ (x : Node) (s : State). PlaceDone (problem_of ws) w w₂ x s step) goes.is taken.goes.state_is done)

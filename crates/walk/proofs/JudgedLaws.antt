@@ -2,7 +2,8 @@
 -- Assumes nothing.
 use Prim.Native.Nat.{ℕ, ◌+◌, ◌≤◌, ◌<◌}
 use mathlib.Core.Path.{◌≡◌, sym, ◌∙◌, ap, subst}
-use mathlib.Core.Logic.{inl, inr}
+use mathlib.Core.Bool.{true}
+use mathlib.Core.Logic.{inl, inr, ⊎_elim}
 use mathlib.Core.List.{List}
 use native.Mathlib.Decide.{dec_le}
 use native.Mathlib.Omega.{arith}
@@ -10,6 +11,7 @@ use lib.ListN.{length}
 use borrow.Author.Tests.{ltb-true, lt-ltb, le-ltb}
 use Rattle.sums.specs.NumSet.{has}
 use Rattle.sums.specs.Table.{entry}
+use Rattle.sums.proofs.NumSetLaws.{with_back}
 use Rattle.model.specs.declared.Layout.{Layout}
 use Rattle.model.specs.Nogood.{MOST_LIMIT}
 use Rattle.model.specs.Schedule.{out_in}
@@ -21,8 +23,7 @@ use Rattle.blame.specs.Placed.{first_units, paid}
 use Rattle.blame.proofs.ClosedLaws.{closed_more}
 use Rattle.blame.proofs.PlacedLaws.{leaf_closed}
 use Rattle.memo.specs.Memo.{Right, Others}
-use Rattle.nogood.specs.declared.Scan.{Scan}
-use Rattle.nogood.specs.declared.Scan.TheVariants.{Cut}
+use Rattle.std.proofs.Common.{Option, Some, Ok, Err}
 use Rattle.nogood.specs.Recall.{Recall, Recalled}
 use Rattle.nogood.proofs.StockLaws.{recall_closed}
 use Rattle.tables.specs.Tables.{price_in, total_in}
@@ -31,72 +32,95 @@ use Rattle.relaxation.proofs.ValueLaws.{recalls_others}
 use Rattle.dual.specs.declared.Node.{Node}
 use Rattle.dual.specs.Blame.{placed_after, Blamed}
 use Rattle.bound.specs.Rows.{RowsOfAll}
-use Rattle.bound.specs.declared.Trial.{Trial}
-use Rattle.bound.specs.declared.Trial.TheVariants.{Fails}
+use Rattle.std.proofs.Common.{Err}
 use Rattle.bound.specs.Tests.{Blames, Judged, TestDue}
 use Rattle.bound.proofs.RunLaws.{rows_all}
 use Rattle.state.specs.declared.State.{State}
 use Rattle.state.specs.declared.Step.{Step}
 use Rattle.state.specs.State.{dead_at, improved_by}
 use Rattle.walk.specs.declared.Visit.{Visit}
-use Rattle.walk.specs.Walk.{AllPlaced, TryDue, TryJudged, LeafDue, BetterDue, Better, Leaf}
-use Rattle.walk.proofs.TryLaws.{order_next}
+use Rattle.walk.specs.Walk.{AllPlaced, TestStartDue, TryDue, Deeper, TryTaken, LeafDue, BetterDue, Better, Leaf}
 
 -- ---- a start
 
-module _ (ws : List ℕ) (l : Layout) (us rows ys : List ℕ) (at : Visit) (w memo : List ℕ) (d : TryDue ws l us rows ys at w memo) where
+module _ (ws : List ℕ) (l : Layout) (us rows ys : List ℕ) (at : Visit) (w memo : List ℕ) (d : TestStartDue ws l us rows ys at w memo) where
   f : Filed ws l
-  unfolding TryDue
-  f = d.walking.filed
+  unfolding TestStartDue
+  f = d.tests.filed
 
   -- a unit is one of sixteen
   pub test_few : at.node.unit < 16
-  unfolding TryDue
-  test_few = omega (arith, d.untried.unit, (ranged ws f.passed).units_most)
+  unfolding TestStartDue
+  test_few = omega (arith, d.tests.due.unit, (ranged ws f.passed).units_most)
 
-  -- what the tests of its start ask
+  -- the units placed and the node's own are the problem's
+  inside : (i : ℕ) → placed_after at.node i ≡ true → i < (problem_of ws).units
+  unfolding TestStartDue
+  inside i e =
+      ⊎_elim (λ (h : has at.node.placed i ≡ true). d.tests.due.within i h) (λ (q : i ≡ at.node.unit). omega (arith, d.tests.due.unit))
+      (with_back (has at.node.placed) at.node.unit i e)
+
+  -- what the tests of the start ask
   pub test_due : TestDue ws l us rows at.node at.state.limit.0 ys memo
-  unfolding TryDue
-  test_due = record {
-    filed = f;
-    dual = d.walking.dual;
-    due = record {
-      unit = d.untried.unit;
-      permits = d.untried.permits;
-      fresh = d.untried.order.each at.node.unit ∙ le-ltb at.node.unit at.node.unit (omega arith);
-      within = λ i e. let l = ltb-true i at.node.unit (sym (d.untried.order.each i) ∙ e) in omega (arith, d.untried.unit);
-      tallied = d.untried.tallied;
-    };
-    stands = d.untried.stands;
-    small = d.untried.small;
-    recalls = d.walking.recalls;
-  }
+  unfolding TestStartDue
+  test_due = d.tests
+
+  pub test_recalls : MemoTrue (problem_of ws) (price_in us) memo
+  unfolding TestStartDue
+  test_recalls = d.tests.recalls
 
   -- a noted conflict is met: its units are to blame
-  judged_recalled : (h : Scan) (b : ℕ) → h ≡ Cut b → Recalled w at.node.starts (placed_after at.node) at.state.limit.0 h
+  pub test_met : (h : Option ℕ) (b : ℕ) → h ≡ Some b → Recalled w at.node.starts (placed_after at.node) at.state.limit.0 h
       → Blames (problem_of ws) (placed_after at.node) (entry at.node.starts) at.state.limit.0 b
-  unfolding TryDue
-  judged_recalled h b e r =
+  unfolding TestStartDue
+  test_met h b e r =
       let c : Recall w at.node.starts (placed_after at.node) at.state.limit.0 b
       = subst (Recalled w at.node.starts (placed_after at.node) at.state.limit.0) e r in
       let g = ranged ws f.passed in
       record {
-        closed = recall_closed (problem_of ws) d.untried.held.nogoods w at.node.starts at.state.used (placed_after at.node)
-            at.state.limit.0 b (fair ws f.passed) (omega (arith, g.weeks_most)) g.units_most
-            (λ i e. omega (arith, order_next at.node d.untried.order i e, d.untried.unit)) d.untried.held.stock c;
+        closed = recall_closed (problem_of ws) d.held.nogoods w at.node.starts at.state.used (placed_after at.node) at.state.limit.0 b
+            (fair ws f.passed) (omega (arith, g.weeks_most)) g.units_most inside d.held.stock c;
         within = c.match.within;
       }
 
-  -- it is judged
-  pub judged_so : (zs memo₁ : List ℕ) (v : Trial) → Judged (problem_of ws) us at.node at.state.limit.0 zs v
-      → MemoTrue (problem_of ws) (price_in us) memo₁ → TryJudged ws l us rows ys at w memo zs memo₁ v
-  unfolding TryDue TryJudged
-  judged_so zs memo₁ v said recalls = record { due = d; said = said; recalls = recalls }
+module _ (ws : List ℕ) (l : Layout) (us rows ys : List ℕ) (at : Visit) (w memo : List ℕ) (d : TryDue ws l us rows ys at w memo) where
+  -- what testing the start of a walk in the paper's order asks
+  pub try_tests : TestStartDue ws l us rows ys at w memo
+  unfolding TryDue TestStartDue
+  try_tests = record {
+    tests = record {
+      filed = d.walking.filed;
+      dual = d.walking.dual;
+      due = record {
+        unit = d.untried.unit;
+        permits = d.untried.permits;
+        fresh = d.untried.order.each at.node.unit ∙ le-ltb at.node.unit at.node.unit (omega arith);
+        within = λ i e. let l = ltb-true i at.node.unit (sym (d.untried.order.each i) ∙ e) in omega (arith, d.untried.unit);
+        tallied = d.untried.tallied;
+      };
+      stands = d.untried.stands;
+      small = d.untried.small;
+      recalls = d.walking.recalls;
+    };
+    held = d.untried.held;
+  }
 
-  pub judged_met : (h : Scan) (b : ℕ) → h ≡ Cut b → Recalled w at.node.starts (placed_after at.node) at.state.limit.0 h
-      → TryJudged ws l us rows ys at w memo ys memo (Fails b)
-  unfolding TryDue TryJudged
-  judged_met h b e r = record { due = d; said = judged_recalled h b e r; recalls = d.walking.recalls }
+  -- its unit is one of sixteen
+  pub try_few : at.node.unit < 16
+  try_few = test_few ws l us rows ys at w memo try_tests
+
+  -- it was judged within the budget, and holds
+  pub judged_holds : (zs memo₁ : List ℕ) (c : Euro) (next : Visit) → Judged (problem_of ws) us at.node at.state.limit.0 zs (Ok c)
+      → MemoTrue (problem_of ws) (price_in us) memo₁ → Deeper at c next → TryTaken ws l us rows ys at w memo zs memo₁ (Ok next)
+  unfolding TryDue TryTaken
+  judged_holds zs memo₁ c next said recalls goes =
+      record { bound = c; judging = record { due = d; said = said; recalls = recalls }; goes = goes }
+
+  -- or does not
+  pub judged_dead : (zs memo₁ : List ℕ) (b : ℕ) → Judged (problem_of ws) us at.node at.state.limit.0 zs (Err b)
+      → MemoTrue (problem_of ws) (price_in us) memo₁ → TryTaken ws l us rows ys at w memo zs memo₁ (Err b)
+  unfolding TryDue TryTaken
+  judged_dead zs memo₁ b said recalls = record { due = d; said = said; recalls = recalls }
 
 -- ---- every unit has its start
 

@@ -1,7 +1,7 @@
 -- The walk of one ask: what its state says of all schedules, before and after a unit is placed and a start is tried. Units count from 0, starts
 -- from 1. The limit is exclusive: a schedule is wanted when it costs less, and a plan's cost is the limit of all that come after it.
 -- Assumes nothing.
-use Rattle.std.specs.Prelude.{ℕ, suc, ◌+◌, ◌-◌, ◌≤◌, ◌<◌, ◌≡◌, Bool, true, false, ◌||◌, List, ◌⊎◌, length, set, ltb}
+use Rattle.std.specs.Prelude.{ℕ, suc, ◌+◌, ◌-◌, ◌≤◌, ◌<◌, ◌≡◌, Bool, true, false, ◌||◌, List, ◌⊎◌, length, set, ltb, Option, Some, None, Result, Ok, Err}
 use Rattle.sums.specs.NumSet.{has, without}
 use Rattle.sums.specs.Table.{entry}
 use Rattle.model.specs.declared.Layout.{Layout}
@@ -23,9 +23,7 @@ use Rattle.relaxation.specs.Relaxed.{MemoTrue}
 use Rattle.dual.specs.declared.Node.{Node}
 use Rattle.dual.specs.Dual.{Dual}
 use Rattle.dual.specs.Blame.{IsNext, Bounded}
-use Rattle.bound.specs.declared.Trial.{Trial}
-use Rattle.bound.specs.declared.Trial.TheVariants.{Holds, Fails}
-use Rattle.bound.specs.Tests.{Blames, Stands, Judged}
+use Rattle.bound.specs.Tests.{Blames, Stands, Judged, TestDue}
 use Rattle.state.specs.declared.State.{State}
 use Rattle.state.specs.declared.Walked.{Walked}
 use Rattle.state.specs.declared.Walked.TheVariants.{Dead, Spent}
@@ -33,8 +31,6 @@ use Rattle.state.specs.declared.Step.{Step}
 use Rattle.state.specs.State.{tried_once, dead_at, improved_by}
 use Rattle.instance.specs.declared.Euro.{Euro}
 use Rattle.walk.specs.declared.Visit.{Visit}
-use Rattle.walk.specs.declared.Turn.{Turn}
-use Rattle.walk.specs.declared.Tried.{Tried}
 
 -- ---- the best so far
 
@@ -154,34 +150,35 @@ PlaceDue ws l us rows ys at w memo = PlaceNeeds ws l us rows ys at w memo
 unfoldable pub TryDue : (ws : List ℕ) → Layout → (us rows ys : List ℕ) → Visit → (w memo : List ℕ) → Type 0
 TryDue ws l us rows ys at w memo = TryNeeds ws l us rows ys at w memo
 
+-- what testing a start asks, in whatever order the units are placed: what its own tests ask, and a table that is true
+pub record TestNeeds (ws : List ℕ) (l : Layout) (us rows ys : List ℕ) (at : Visit) (w memo : List ℕ) : Type 0 where
+  pub tests : TestDue ws l us rows at.node at.state.limit.0 ys memo
+  pub held : TableTrue (problem_of ws) w at.state.used
+
+unfoldable pub TestStartDue : (ws : List ℕ) → Layout → (us rows ys : List ℕ) → Visit → (w memo : List ℕ) → Type 0
+TestStartDue ws l us rows ys at w memo = TestNeeds ws l us rows ys at w memo
+
 -- a start that was to be tried was judged; what it asked holds still
-pub record Judging (ws : List ℕ) (l : Layout) (us rows ys : List ℕ) (at : Visit) (w memo zs memo₁ : List ℕ) (v : Trial) : Type 0 where
+pub record Judging (ws : List ℕ) (l : Layout) (us rows ys : List ℕ) (at : Visit) (w memo zs memo₁ : List ℕ) (v : Result Euro ℕ) : Type 0 where
   pub due : TryNeeds ws l us rows ys at w memo
   pub said : Judged (problem_of ws) us at.node at.state.limit.0 zs v
   pub recalls : MemoTrue (problem_of ws) (price_in us) memo₁
 
-unfoldable pub TryJudged : (ws : List ℕ) → Layout → (us rows ys : List ℕ) → Visit → (w memo zs memo₁ : List ℕ) → Trial → Type 0
-TryJudged ws l us rows ys at w memo zs memo₁ v = Judging ws l us rows ys at w memo zs memo₁ v
+-- where the walk goes on from a start that holds: its unit is placed, and the try is counted
+pub record Deeper (at : Visit) (bound : Euro) (next : Visit) : Type 0 where
+  pub node_is : IsNext at.node bound next.node
+  pub state_is : next.state ≡ tried_once at.state
 
--- where the walk goes on: where the start holds its unit is placed
-abbrev pub GoesTo : Node → Trial → Node → Type 0
-GoesTo node (Holds r) next = IsNext node r next
-GoesTo node (Fails b) next = next ≡ node
+-- a start was judged to hold, and the walk goes on
+pub record Taken (ws : List ℕ) (l : Layout) (us rows ys : List ℕ) (at : Visit) (w memo zs memo₁ : List ℕ) (next : Visit) : Type 0 where
+  pub bound : Euro
+  pub judging : Judging ws l us rows ys at w memo zs memo₁ (Ok bound)
+  pub goes : Deeper at bound next
 
--- and the try is counted
-pub record Deeper (at : Visit) (v : Trial) (r : Tried) : Type 0 where
-  pub trial_is : r.trial ≡ v
-  pub node_is : GoesTo at.node v r.at.node
-  pub state_is : r.at.state ≡ tried_once at.state
-
--- a start was judged, and the walk goes on
-pub record Taken (ws : List ℕ) (l : Layout) (us rows ys : List ℕ) (at : Visit) (w memo zs memo₁ : List ℕ) (r : Tried) : Type 0 where
-  pub judging : Judging ws l us rows ys at w memo zs memo₁ r.trial
-  pub node_is : GoesTo at.node r.trial r.at.node
-  pub state_is : r.at.state ≡ tried_once at.state
-
-unfoldable pub TryTaken : (ws : List ℕ) → Layout → (us rows ys : List ℕ) → Visit → (w memo zs memo₁ : List ℕ) → Tried → Type 0
-TryTaken ws l us rows ys at w memo zs memo₁ r = Taken ws l us rows ys at w memo zs memo₁ r
+-- it was judged: it holds, or some units' starts are a dead end
+unfoldable pub TryTaken : (ws : List ℕ) → Layout → (us rows ys : List ℕ) → Visit → (w memo zs memo₁ : List ℕ) → Result Visit ℕ → Type 0
+TryTaken ws l us rows ys at w memo zs memo₁ (Ok next) = Taken ws l us rows ys at w memo zs memo₁ next
+TryTaken ws l us rows ys at w memo zs memo₁ (Err b) = Judging ws l us rows ys at w memo zs memo₁ (Err b)
 
 -- the place of the first k starts is dead, by the starts of the units of b
 pub record DeadEnd (p : Problem) (xs : List ℕ) (k : ℕ) (st : State) (b : ℕ) : Type 0 where
@@ -218,9 +215,9 @@ GoesOn blame j both (Dead b) = Shares blame b j both
 GoesOn blame j both (Spent m) = ⊥
 
 -- one or the other
-pub record TurnOf (step : Step) (blame j : ℕ) (turn : Turn) : Type 0 where
-  pub leaves : turn.left ≡ true → LeavesUnit j step.walked
-  pub goes_on : turn.left ≡ false → GoesOn blame j turn.blame step.walked
+abbrev pub TurnOf : (step : Step) (blame j : ℕ) → Option ℕ → Type 0
+TurnOf step blame j None = LeavesUnit j step.walked
+TurnOf step blame j (Some both) = GoesOn blame j both step.walked
 
 -- after at most `room` tries
 pub record Done (p : Problem) (w w' xs : List ℕ) (k room : ℕ) (st : State) (step : Step) : Type 0 where

@@ -7,13 +7,12 @@ ghost use Rattle.model.specs.Words.{problem_of};
 ghost use Rattle.tables.specs.Tables.{price_in};
 ghost use Rattle.relaxation.specs.Relaxed.{MemoTrue};
 ghost use Rattle.state.specs.State.{MOST_TRIES};
-ghost use Rattle.walk.specs.Walk.{IsStart, PlaceDue, TryDue, TryJudged, Deeper, TryTaken, PlaceDone, TryDone, Shares, TurnOf, LeafDue, BetterDue, Better, Leaf};
+ghost use Rattle.bound.specs.Tests.{Judged};
+ghost use Rattle.walk.specs.Walk.{IsStart, PlaceDue, TryDue, TestStartDue, Deeper, TryTaken, PlaceDone, TryDone, Shares, TurnOf, LeafDue, BetterDue, Better, Leaf};
 
-use bound::Trial;
 use dual::Node;
 use instance::Euro;
 use model::Layout;
-use nogood::Scan;
 use state::{State, Step, Walked};
 use tables::TABLES;
 
@@ -26,15 +25,8 @@ pub struct Visit {
 
 // ---- a start judged
 
-// A start that was judged, and where the walk goes on: the try is counted, and where the start holds one unit more is placed at the bound with it.
-#[derive(Clone, Copy)]
-struct Tried {
-    trial: Trial,
-    at: Visit,
-}
-
-// Tests the start of a unit: noted nogoods, then rules and cost.
-fn test_start(
+// Tests the start of a unit: noted nogoods, then rules and cost. It holds, and the lower bound with it is this; or these units' starts are a dead end.
+pub fn test_start(
     words: &[u32],
     l: Layout,
     tables: &[u32; TABLES],
@@ -43,46 +35,31 @@ fn test_start(
     table: &[u32],
     values: &mut [u32],
     memo: &mut [u32],
-) -> Trial
-    requires { TryDue words.now l tables.now rows.now values.old at table.now memo.old }
-    ensures { TryJudged words.now l tables.now rows.now values.old at table.now memo.old
-        values.new memo.new result }
+) -> Result<Euro, u32>
+    requires { TestStartDue words.now l tables.now rows.now values.old at table.now memo.old }
+    ensures answer { Judged (problem_of words.now) tables.now at.node at.state.limit.0 values.new result }
+    ensures recalls { MemoTrue (problem_of words.now) (price_in tables.now) memo.new }
 {
     let node = at.node;
     let st = at.state;
-    let starts = node.starts;
-    let limit = st.limit;
-    let h = state::recalled(table, st, starts, node.placed, node.unit);
-    if let Scan::Cut(b) = h {
-        return Trial::Fails(b);
+    if let Some(b) = state::recalled(table, st, node.starts, node.placed, node.unit) {
+        return Err(b);
     }
-    bound::test(words, l, tables, rows, node, limit, values, memo)
+    bound::test(words, l, tables, rows, node, st.limit, values, memo)
 }
 
-// Where the walk goes on after a verdict.
-fn deeper(at: Visit, v: Trial) -> Tried
+// Where the walk goes on from a start that holds: one unit more is placed at the bound with it, and the try is counted.
+pub fn deeper(at: Visit, bound: Euro) -> Visit
     requires { (at.node.unit < 16) × (at.state.tries < MOST_TRIES) }
-    ensures { Deeper at v result }
+    ensures { Deeper at bound result }
 {
-    let node = at.node;
-    let st = at.state;
-    let state = state::tried(st);
-    match v {
-        Trial::Fails(b) => Tried {
-            trial: Trial::Fails(b),
-            at: Visit { node, state },
-        },
-        Trial::Holds(bound) => Tried {
-            trial: Trial::Holds(bound),
-            at: Visit {
-                node: dual::next_node(node, bound),
-                state,
-            },
-        },
+    Visit {
+        node: dual::next_node(at.node, bound),
+        state: state::tried(at.state),
     }
 }
 
-// Judges the start of a unit, within the budget.
+// Judges the start of a unit, within the budget: where the walk goes on, or the units whose starts are a dead end.
 fn judge_start(
     words: &[u32],
     l: Layout,
@@ -92,13 +69,13 @@ fn judge_start(
     table: &[u32],
     values: &mut [u32],
     memo: &mut [u32],
-) -> Tried
+) -> Result<Visit, u32>
     requires { TryDue words.now l tables.now rows.now values.old at table.now memo.old × (at.state.tries < MOST_TRIES) }
     ensures { TryTaken words.now l tables.now rows.now values.old at table.now memo.old
         values.new memo.new result }
 {
-    let v = test_start(words, l, tables, rows, at, table, values, memo);
-    deeper(at, v)
+    let bound = test_start(words, l, tables, rows, at, table, values, memo)?;
+    Ok(deeper(at, bound))
 }
 
 // ---- all units placed
@@ -167,48 +144,30 @@ fn try_start(
 {
     let st = at.state;
     let node = at.node;
-    let starts = node.starts;
     if st.budget <= st.tries {
-        return state::stopped(st, starts, node.unit + 1);
+        return state::stopped(st, node.starts, node.unit + 1);
     }
     let mut next = *values;
-    let tried = judge_start(words, l, tables, rows, at, &table[..], &mut next, memo);
-    let below = tried.at;
-    let v = tried.trial;
-    match v {
-        Trial::Fails(b) => state::dead_end(below.state, b),
-        Trial::Holds(_) => {
-            let out = bound::placed_rows(words, l, rows, starts, node.unit);
+    match judge_start(words, l, tables, rows, at, &table[..], &mut next, memo) {
+        Err(b) => state::dead_end(state::tried(st), b),
+        Ok(below) => {
+            let out = bound::placed_rows(words, l, rows, node.starts, node.unit);
             place(words, l, tables, &out, &next, below, table, memo)
         }
     }
 }
 
 // The visit of a node with start v for its unit.
-fn with_start(node: Node, v: usize, st: State) -> Visit
+pub fn with_start(node: Node, v: usize, st: State) -> Visit
     requires { (node.unit < 16) × (v ≤ 52) }
     ensures { IsStart node v st result }
 {
     let mut starts = node.starts;
-    let j = node.unit;
-    let bound = node.bound;
-    starts[j] = v as u8;
+    starts[node.unit] = v as u8;
     Visit {
-        node: Node {
-            starts,
-            unit: j,
-            bound,
-            placed: node.placed,
-        },
+        node: Node { starts, ..node },
         state: st,
     }
-}
-
-// Whether a unit's starts are left after one of them, and else the units to blame so far.
-#[derive(Clone, Copy)]
-pub struct Turn {
-    pub left: bool,
-    pub blame: u32,
 }
 
 // The units to blame so far, and those of one more start but unit j.
@@ -219,23 +178,14 @@ fn shared(blame: u32, b: u32, j: usize) -> u32
     sets::union(blame, sets::without(b, j))
 }
 
-// After a start of unit j: left where the budget is spent, and where unit j has no share in the dead end.
-pub fn turn_after(step: Step, blame: u32, j: usize) -> Turn
+// The units to blame after a start of unit j; none where its starts are left: the budget is spent, or unit j has no share in the dead end.
+pub fn turn_after(step: Step, blame: u32, j: usize) -> Option<u32>
     requires { j < 32 }
     ensures { TurnOf step blame j result }
 {
-    let w = step.walked;
-    match w {
-        Walked::Spent(_) => Turn { left: true, blame },
-        Walked::Dead(b) => {
-            if sets::has(b, j) {
-                return Turn {
-                    left: false,
-                    blame: shared(blame, b, j),
-                };
-            }
-            Turn { left: true, blame }
-        }
+    match step.walked {
+        Walked::Dead(b) if sets::has(b, j) => Some(shared(blame, b, j)),
+        _ => None,
     }
 }
 
@@ -257,38 +207,23 @@ pub fn place(
     ensures recalls { MemoTrue (problem_of words.now) (price_in tables.now) memo.new }
 {
     let node = at.node;
-    let starts = node.starts;
     if l.units <= node.unit {
         return close_leaf(words, l, tables, rows, values, at, memo);
     }
     let range = overhaul::starts_of(words, l, node.unit);
-    let last = range.last;
     let mut s = at.state;
-    let mut blame: u32 = 0;
-    let mut v = range.first;
+    let mut blame = 0;
     // Each time round, no schedule with the starts of the units to blame and a start of this unit below v is left below the limit.
-    while v <= last {
-        let step = try_start(
-            words,
-            l,
-            tables,
-            rows,
-            values,
-            with_start(node, v, s),
-            table,
-            memo,
-        );
-        let turn = turn_after(step, blame, node.unit);
-        if turn.left {
+    for v in range.first..range.last + 1 {
+        let next = with_start(node, v, s);
+        let step = try_start(words, l, tables, rows, values, next, table, memo);
+        let Some(shared) = turn_after(step, blame, node.unit) else {
             return step;
-        }
-        blame = turn.blame;
-        let q = step.state;
-        s = q;
-        v += 1;
+        };
+        blame = shared;
+        s = step.state;
     }
-    state::dead_end(
-        state::note_dead_end(table, s, starts, node.unit, blame, state::last_unit(blame)),
-        blame,
-    )
+    let last = state::last_unit(blame);
+    let noted = state::note_dead_end(table, s, node.starts, node.unit, blame, last);
+    state::dead_end(noted, blame)
 }

@@ -7,11 +7,8 @@ loop-m-init c = search reading_start
 pub returns-then-kind_of-ne14 : goal.returns-then-kind_of-ne14
 returns-then-kind_of-ne14 c = search reading_end
 
-pub returns-then-unit-lt1 : goal.returns-then-unit-lt1
-returns-then-unit-lt1 c = tt
-
 pub loop-m-preserved : goal.loop-m-preserved
-loop-m-preserved c = search reading_next
+loop-m-preserved c = search (reading_next, c.in_ok-unit_met.ensures)
 
 pub returns : goal.returns
 returns c = search reading_out

@@ -1,9 +1,9 @@
 use Rattle.std.proofs.Common.{refl, ◌∙◌, rules, arith}
-use Rattle.probe.proofs.CallLaws.{place_filed, place_small, place_leaf, place_weighed, place_starts, place_long}
-use Rattle.probe.proofs.CallLaws.{starts_few, starts_small, starts_within, starts_fit, starts_try, starts_fall}
+use Rattle.probe.proofs.CallLaws.{place_filed, place_small, place_leaf, place_weighed, place_fits, place_starts, place_long}
+use Rattle.probe.proofs.CallLaws.{starts_few, starts_small, starts_within, starts_try, starts_fall}
 use Rattle.probe.proofs.CallLaws.{starts_left, starts_next, starts_used, starts_most, starts_limit, starts_recalls, starts_done}
 use Rattle.probe.proofs.TryLaws.{try_recalls, try_long, try_stops}
-use Rattle.probe.proofs.TryLaws.{taken_filed, taken_recalls, taken_rows, taken_fails, taken_places, taken_falls, taken_placed}
+use Rattle.probe.proofs.TryLaws.{taken_filed, taken_dead_recalls, taken_rows, taken_fails, taken_places, taken_falls, taken_placed}
 use Rattle.probe.proofs.+place_try_start.Goals as goal
 
 pub place-next_unit-unit-requires : goal.place-next_unit-unit-requires
@@ -18,34 +18,32 @@ place-returns-then-l-unit t c = record { answer = search place_weighed; recalls 
 pub place-starts_of-range-requires : goal.place-starts_of-range-requires
 place-starts_of-range-requires t c = record { filed = search place_filed; i_lt_units = search rules }
 
+pub place-overflow_add-v-end : goal.place-overflow_add-v-end
+place-overflow_add-v-end t c = search place_fits
+
 pub place-loop-v-init : goal.place-loop-v-init
 place-loop-v-init t c = (search place_starts, refl, refl)
 
-pub place-with_start-requires : goal.place-with_start-requires
-place-with_start-requires t c = (search starts_few, search starts_within)
+pub place-with_start-next-requires : goal.place-with_start-next-requires
+place-with_start-next-requires t c = (search starts_few, search starts_within)
 
 pub place-try_start-step-requires : goal.place-try_start-step-requires
 place-try_start-step-requires t c = (search starts_fall, search starts_try)
 
-pub place-turn_after-turn-requires : goal.place-turn_after-turn-requires
-place-turn_after-turn-requires t c = search starts_small
+pub place-turn_after-requires : goal.place-turn_after-requires
+place-turn_after-requires t c = search starts_small
 
 -- by name: a search looks at all records for what it is not given, and takes too many steps
-pub place-returns-then-turn : goal.place-returns-then-turn
-place-returns-then-turn t c =
-    let tried = c.try_start-step.ensures in record {
-      answer = starts_left _ _ _ _ _ _ _ _ _ _ _ _ _ _ _ _ _ _ c.loop-v.invariant.0 c.with_start.ensures tried.answer c.turn_after-turn.ensures
-          (search rules) (search rules);
-      recalls = tried.recalls;
-    }
-
-pub place-overflow_add-v : goal.place-overflow_add-v
-place-overflow_add-v t c = search starts_fit
+pub place-returns-in_default-clause-answer : goal.place-returns-in_default-clause-answer
+place-returns-in_default-clause-answer t c =
+    let tried = c.try_start-step.ensures in
+    starts_left _ _ _ _ _ _ _ _ _ _ _ _ _ _ _ _ _ _ c.loop-v.invariant.0 c.with_start-next.ensures tried.answer c.turn_after.ensures
+    (search rules) (search rules)
 
 pub place-loop-v-preserved : goal.place-loop-v-preserved
 place-loop-v-preserved t c =
     let tried = c.try_start-step.ensures in (
-      starts_next _ _ _ _ _ _ _ _ _ _ _ _ _ _ _ _ _ _ _ c.loop-v.invariant.0 c.with_start.ensures tried.answer c.turn_after-turn.ensures
+      starts_next _ _ _ _ _ _ _ _ _ _ _ _ _ _ _ _ _ _ _ _ c.loop-v.invariant.0 c.with_start-next.ensures tried.answer c.turn_after.ensures
           tried.recalls (search rules) (search rules),
       place_long _ _ _ _ _ tried.answer ∙ c.loop-v.invariant.1,
       search rules,
@@ -68,12 +66,12 @@ try_start-placed_rows-out-requires t c = (search taken_filed, search taken_rows)
 
 pub try_start-place-requires : goal.try_start-place-requires
 try_start-place-requires t c =
-    let taken = c.judge_start-tried.ensures in
-    let holds = c.in-Holds.is in
+    let taken = c.judge_start.ensures in
+    let holds = c.in-Ok.is in
     (taken_falls _ _ _ _ _ _ _ _ _ _ _ taken _ holds _ (omega arith), taken_places _ _ _ _ _ _ _ _ _ _ _ taken _ holds _ (search rules))
 
-pub try_start-returns-in-Fails : goal.try_start-returns-in-Fails
-try_start-returns-in-Fails t c = record { answer = search taken_fails; recalls = search taken_recalls }
+pub try_start-returns-in-Err : goal.try_start-returns-in-Err
+try_start-returns-in-Err t c = record { answer = search taken_fails; recalls = search taken_dead_recalls }
 
-pub try_start-returns-in-Holds : goal.try_start-returns-in-Holds
-try_start-returns-in-Holds t c = record { answer = search taken_placed; recalls = search rules }
+pub try_start-returns-in-Ok : goal.try_start-returns-in-Ok
+try_start-returns-in-Ok t c = record { answer = search taken_placed; recalls = search rules }

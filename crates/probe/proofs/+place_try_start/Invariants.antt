@@ -1,7 +1,7 @@
 -- `probe::place` and `probe::try_start`, which call each other, meet their contracts, by recursion on the number of units not placed: each start tried
 -- and each unit placed leaves fewer.
 -- Assumes nothing.
-use Rattle.std.proofs.Common.{◌≡◌, length, ◌+◌, ◌*◌, ◌-◌}
+use Rattle.std.proofs.Common.{◌≡◌, length, ◌*◌, ◌-◌}
 use Rattle.sums.specs.NumSet.{has}
 use Rattle.model.specs.Words.{problem_of}
 use Rattle.probe.specs.Probe.{unplaced}
@@ -9,16 +9,12 @@ use Rattle.probe.proofs.CallLaws.{Starts}
 use Rattle.probe.proofs.+place_try_start.Given as goal
 
 abbrev pub decreases-place : goal.decreases-place
-decreases-place l = 2 * unplaced (problem_of l.words.now) (has l.at.node.placed)
+decreases-place l = 2 * unplaced (problem_of l.words.now) (has l.at.visit.node.placed)
 
 abbrev pub invariant-place-loop-v : goal.invariant-place-loop-v
 invariant-place-loop-v l =
-    Starts l.words l.l l.tables l.rows l.values l.at l.initial.table l.unit l.last l.table l.s l.blame l.v l.memo
+    Starts l.words l.l l.tables l.rows l.values l.at l.initial.table l.unit l.v-end l.table l.s l.blame l.v l.memo
     × (length l.table ≡ length l.initial.table) × (length l.memo ≡ length l.initial.memo)
 
-abbrev pub decreases-place-loop-v : goal.decreases-place-loop-v
-decreases-place-loop-v l =
-    l.last + 1 - l.v
-
 abbrev pub decreases-try_start : goal.decreases-try_start
-decreases-try_start l = 2 * unplaced (problem_of l.words.now) (has l.at.node.placed) - 1
+decreases-try_start l = 2 * unplaced (problem_of l.words.now) (has l.at.visit.node.placed) - 1

@@ -10,8 +10,8 @@ root-v-requires c = search root_due
 pub place-requires : goal.place-requires
 place-requires c = search root_places
 
-pub returns-in-Fails : goal.returns-in-Fails
-returns-in-Fails c = record { answer = search root_fails; recalls = search rules }
+pub returns-in-Err : goal.returns-in-Err
+returns-in-Err c = record { answer = search root_fails; recalls = search rules }
 
-pub returns-in-Holds : goal.returns-in-Holds
-returns-in-Holds c = record { answer = search root_placed; recalls = search rules }
+pub returns-in-Ok : goal.returns-in-Ok
+returns-in-Ok c = record { answer = search root_placed; recalls = search rules }

@@ -1,11 +1,17 @@
 -- `probe::judge_start` meets its contract: the verdict, and where the probe goes on.
 -- Assumes nothing.
 use Rattle.std.proofs.Common.{rules}
-use Rattle.probe.proofs.JudgedLaws.{judged_few, judged_taken}
+use Rattle.probe.proofs.JudgedLaws.{start_tests, start_few, judged_holds, judged_dead}
 use Rattle.probe.proofs.judge_start.Goals as goal
 
+pub test_start-requires : goal.test_start-requires
+test_start-requires c = search start_tests
+
+pub returns-in_err-bound : goal.returns-in_err-bound
+returns-in_err-bound c = search (rules, judged_dead, c.in_err-bound.ensures)
+
 pub deeper-requires : goal.deeper-requires
-deeper-requires c = (search judged_few, search rules)
+deeper-requires c = (search start_few, search rules)
 
 pub returns : goal.returns
-returns c = search judged_taken
+returns c = search (judged_holds, c.in_ok-bound.ensures)

@@ -1,11 +1,17 @@
 -- `walk::judge_start` meets its contract: the verdict, and where the walk goes on.
 -- Assumes nothing.
 use Rattle.std.proofs.Common.{rules}
-use Rattle.walk.proofs.CallLaws.{judged_few, judged_taken}
+use Rattle.walk.proofs.JudgedLaws.{try_tests, try_few, judged_holds, judged_dead}
 use Rattle.walk.proofs.judge_start.Goals as goal
 
+pub test_start-requires : goal.test_start-requires
+test_start-requires c = search try_tests
+
+pub returns-in_err-bound : goal.returns-in_err-bound
+returns-in_err-bound c = search (rules, judged_dead, c.in_err-bound.ensures)
+
 pub deeper-requires : goal.deeper-requires
-deeper-requires c = (search judged_few, search rules)
+deeper-requires c = (search try_few, search rules)
 
 pub returns : goal.returns
-returns c = search judged_taken
+returns c = search (judged_holds, c.in_ok-bound.ensures)

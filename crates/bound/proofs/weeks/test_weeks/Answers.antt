@@ -8,17 +8,17 @@ overhaul_weeks-weeks-requires c = (search rules, search due_permitted)
 pub loop-t-init : goal.loop-t-init
 loop-t-init c = (search rules, search weeks_rise, search weeks_few, search tested_start, search rules, refl, refl)
 
-pub returns-then-wanted-total : goal.returns-then-wanted-total
-returns-then-wanted-total c = record { answer = search tested_reached; recalls = search rules }
+pub returns-then-wanted-total-clause-answer : goal.returns-then-wanted-total-clause-answer
+returns-then-wanted-total-clause-answer c = search tested_reached
 
-pub test_next-v-requires : goal.test_next-v-requires
-test_next-v-requires c = search weeks_due
+pub test_next-requires : goal.test_next-requires
+test_next-requires c = search weeks_due
 
-pub returns-in-Fails : goal.returns-in-Fails
-returns-in-Fails c = record { answer = search tested_shut; recalls = search rules }
+pub returns-in_err-total-clause-answer : goal.returns-in_err-total-clause-answer
+returns-in_err-total-clause-answer c = search (rules, tested_shut, c.in_err-total.ensures)
 
 pub loop-t-preserved : goal.loop-t-preserved
-loop-t-preserved c = (search rules, search rules, search rules, search tested_more, search rules, search rules, search rules)
+loop-t-preserved c = (search rules, search rules, search rules, search (tested_more, c.in_ok-total.ensures), search rules, search rules, search rules)
 
-pub returns : goal.returns
-returns c = record { answer = search tested_ended; recalls = search rules }
+pub returns-clause-answer : goal.returns-clause-answer
+returns-clause-answer c = search tested_ended

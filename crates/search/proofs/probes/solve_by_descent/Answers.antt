@@ -7,8 +7,8 @@ use Rattle.search.proofs.probes.solve_by_descent.Goals as goal
 pub descend-r-requires : goal.descend-r-requires
 descend-r-requires c = search plan_descends
 
-pub returns-then-r : goal.returns-then-r
-returns-then-r c = record { answer = search plan_told; recalls = search rules }
+pub returns-in-Earliest : goal.returns-in-Earliest
+returns-in-Earliest c = record { answer = search plan_told; recalls = search rules }
 
 pub last_walk-requires : goal.last_walk-requires
 last_walk-requires c = search plan_walks
