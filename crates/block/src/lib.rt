@@ -17,7 +17,7 @@ use state::Walked;
 
 // What a reply says: a plan, none, a best before the mark, or a mark alone.
 #[derive(Clone, Copy, Debug, PartialEq, Eq)]
-pub enum Status {
+enum Status {
     Optimal,
     Infeasible,
     Incumbent,
