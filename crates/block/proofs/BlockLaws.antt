@@ -1,14 +1,10 @@
 -- The block of a reply, word by word, as the code finds each.
 -- Assumes nothing.
-use Prim.Native.Nat.{ℕ, ◌+◌, ◌-◌, ◌*◌, ◌≤◌, ◌<◌}
-use mathlib.Core.Path.{◌≡◌, refl, sym, ◌∙◌, ap, subst}
-use mathlib.Core.Bool.{Bool, true, false}
+use Prim.Native.Nat.{ℕ, ◌-◌, ◌*◌, ◌≤◌, ◌<◌}
+use mathlib.Core.Path.{◌≡◌, ◌∙◌, ap}
 use mathlib.Core.List.{List}
-use native.Mathlib.Nat.{mul-le-mul}
 use native.Mathlib.Omega.{arith}
 use lib.ListN.{get_or}
-use mir.Syntax.{w64}
-use mir.Val.{Fits}
 use borrow.Author.Tests.{lt-ltb, le-ltb}
 use Rattle.sums.specs.Logic.{if}
 use Rattle.sums.specs.Range.{list_to}
@@ -16,56 +12,17 @@ use Rattle.sums.specs.Table.{entry}
 use Rattle.lent.specs.Splice.{spliced}
 use Rattle.model.specs.declared.Layout.{Layout}
 use Rattle.search.specs.declared.Reply.{Reply}
-use Rattle.state.specs.declared.Walked.{Walked}
-use Rattle.state.specs.declared.Walked.TheVariants.{Dead, Spent}
 use Rattle.shape.specs.Shape.{runs_at, mark_at, block_size}
-use Rattle.block.specs.Block.{status_of, mark_length, block_word, Placed, put_at}
-
--- ---- a status, a mark, a start
-
-module _ (found : Bool) (w : Walked) where
-  -- a plan
-  pub status_plan : (b : ℕ) → w ≡ Dead b → found ≡ true → 1 ≡ status_of found w
-  unfolding status_of
-  status_plan b e f = rw (e, f)
-
-  -- none
-  pub status_none : (b : ℕ) → w ≡ Dead b → found ≡ false → 2 ≡ status_of found w
-  unfolding status_of
-  status_none b e f = rw (e, f)
-
-  -- a best before the mark
-  pub status_spent : (m : ℕ) → w ≡ Spent m → found ≡ true → 3 ≡ status_of found w
-  unfolding status_of
-  status_spent m e f = rw (e, f)
-
-  -- a mark alone
-  pub status_mark : (m : ℕ) → w ≡ Spent m → found ≡ false → 4 ≡ status_of found w
-  unfolding status_of
-  status_mark m e f = rw (e, f)
-
--- a walk that ended unspent has no mark
-pub mark_none : (w : Walked) (b : ℕ) → w ≡ Dead b → 0 ≡ mark_length w
-unfolding mark_length
-mark_none w b e = rw e
-
--- a spent one has
-pub mark_some : (w : Walked) (m : ℕ) → w ≡ Spent m → m ≡ mark_length w
-unfolding mark_length
-mark_some w m e = rw e
-
--- a start that an array holds
-pub start_at_lem : (xs : List ℕ) (i : ℕ) → get_or xs i 0 ≡ entry xs i
-unfolding entry
-start_at_lem xs i = refl
+use Rattle.block.specs.declared.Status.{Status}
+use Rattle.block.specs.Block.{status_number, status_of, mark_length, block_word, put_at}
 
 -- ---- a word of the block
 
 module _ (u w : ℕ) (r : Reply) (q v : ℕ) where
   -- the status
-  pub word_status : q < 1 → v ≡ status_of r.state.found r.walked → v ≡ block_word u w r q
+  pub word_status : (s : Status) → q < 1 → s ≡ status_of r.state.found r.walked → v ≡ status_number s → v ≡ block_word u w r q
   unfolding block_word
-  word_status h e = rw (lt-ltb q 1 h) e
+  word_status s h e n = rw (lt-ltb q 1 h, ← e) n
 
   module _ (a : 1 ≤ q) where
     -- the cost
@@ -108,18 +65,9 @@ block_ended f at d xs k n size e h m is = let o : k ≡ size = omega arith in rw
 
 -- ---- the place of a block
 
-module _ (l : Layout) (k words size : ℕ) (placed : Placed l k words) (is : size ≡ block_size l.units l.weeks) where
-  -- is a number of places
-  pub block_fits : size ≤ 86 → Fits w64 (k * size)
-  block_fits h = let few : k ≤ 32 = omega (arith, placed.few) in let m = mul-le-mul few h in omega arith
-
-  -- there is room behind it
-  pub block_room : k * size + block_size l.units l.weeks ≤ words
-  block_room = subst (λ (n : ℕ). k * n + block_size l.units l.weeks ≤ words) (sym is) placed.room
-
-  -- the block there
-  pub block_put : (r : Reply) (d xs : List ℕ)
-      → xs ≡ spliced (k * size) (list_to (block_size l.units l.weeks) (block_word l.units l.weeks r)) d → xs ≡ put_at l k r d
-  unfolding put_at
-  block_put r d xs e =
-      e ∙ ap (λ (n : ℕ). spliced (k * n) (list_to (block_size l.units l.weeks) (block_word l.units l.weeks r)) d) is
+-- the block there
+pub block_put : (l : Layout) (k size : ℕ) (r : Reply) (d xs : List ℕ) → size ≡ block_size l.units l.weeks
+    → xs ≡ spliced (k * size) (list_to (block_size l.units l.weeks) (block_word l.units l.weeks r)) d → xs ≡ put_at l k r d
+unfolding put_at
+block_put l k size r d xs is e =
+    e ∙ ap (λ (n : ℕ). spliced (k * n) (list_to (block_size l.units l.weeks) (block_word l.units l.weeks r)) d) is

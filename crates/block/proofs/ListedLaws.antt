@@ -21,7 +21,7 @@ use Rattle.state.specs.declared.Walked.{Walked}
 use Rattle.state.specs.declared.Walked.TheVariants.{Dead, Spent}
 use Rattle.search.specs.Ask.{answer_for, answer_of}
 use Rattle.shape.specs.Shape.{runs_at, mark_at, block_size}
-use Rattle.block.specs.Block.{status_of, mark_length, block_word}
+use Rattle.block.specs.Block.{status_number, status_of, mark_length, block_word}
 
 -- ---- lists of numbers in parts
 
@@ -89,7 +89,7 @@ module _ (u w : ℕ) (r : Reply) where
   unfolding block_word
   word_at_cost = refl
 
-  word_at_status : block_word u w r 0 ≡ status_of r.state.found r.walked
+  word_at_status : block_word u w r 0 ≡ status_number (status_of r.state.found r.walked)
   unfolding block_word
   word_at_status = refl
 
@@ -139,9 +139,9 @@ module _ (p : Problem) (limit : ℕ) (best mark runs : List ℕ) (ceiling budget
   no_mark = let e : p.units - 0 ≡ p.units = omega arith in ap zeros e
 
   parts_block : (found : Bool) (k : Walked)
-      → (status_of found k ∷ if found limit 0 ∷ part_of found p.units (entry best) ++ part_of found p.weeks (entry runs)
+      → (status_number (status_of found k) ∷ if found limit 0 ∷ part_of found p.units (entry best) ++ part_of found p.weeks (entry runs)
       ++ padded p.units (list_to (mark_length k) (entry mark))) ≡ block_of p (answer_for p limit best mark runs found k)
-  unfolding status_of mark_length part_of block_of
+  unfolding status_of status_number mark_length part_of block_of
   parts_block true (Dead b) =
       ap (λ (l : List ℕ). 1 ∷ limit ∷ list_to p.units (entry best) ++ list_to p.weeks (entry runs) ++ l) no_mark
   parts_block false (Dead b) = ap (λ (l : List ℕ). 2 ∷ 0 ∷ zeros p.units ++ zeros p.weeks ++ l) no_mark

@@ -9,14 +9,23 @@ use Rattle.model.specs.declared.Layout.{Layout}
 use Rattle.search.specs.declared.Reply.{Reply}
 use Rattle.state.specs.declared.Walked.{Walked}
 use Rattle.state.specs.declared.Walked.TheVariants.{Dead, Spent}
+use Rattle.block.specs.declared.Status.{Status}
+use Rattle.block.specs.declared.Status.TheVariants.{Optimal, Infeasible, Incumbent, Unknown}
 use Rattle.shape.specs.Shape.{COST_PLACE, START_PLACE, runs_at, mark_at, block_size}
 
--- 1 plan, 2 none, 3 a best before the mark, 4 a mark alone
-unfoldable pub status_of : Bool → Walked → ℕ
-status_of true (Dead b) = 1
-status_of false (Dead b) = 2
-status_of true (Spent m) = 3
-status_of false (Spent m) = 4
+-- the status of a reply: a plan, none, a best before the mark, a mark alone
+unfoldable pub status_of : Bool → Walked → Status
+status_of true (Dead b) = Optimal
+status_of false (Dead b) = Infeasible
+status_of true (Spent m) = Incumbent
+status_of false (Spent m) = Unknown
+
+-- its number in document 01
+unfoldable pub status_number : Status → ℕ
+status_number Optimal = 1
+status_number Infeasible = 2
+status_number Incumbent = 3
+status_number Unknown = 4
 
 -- how many starts the mark has
 unfoldable pub mark_length : Walked → ℕ
@@ -25,9 +34,9 @@ mark_length (Spent m) = m
 
 -- word q of the block of a reply, for u units and w weeks; what a status has none of is 0
 unfoldable pub block_word : (u w : ℕ) → Reply → ℕ → ℕ
-unfolding status_of mark_length
+unfolding status_of status_number mark_length
 block_word u w r q =
-    if (ltb q COST_PLACE) (status_of r.state.found r.walked)
+    if (ltb q COST_PLACE) (status_number (status_of r.state.found r.walked))
     (if (ltb q START_PLACE) (if r.state.found r.state.limit.0 0)
     (if (ltb q (runs_at u)) (if r.state.found (entry r.state.best (q - START_PLACE)) 0)
     (if (ltb q (mark_at u w)) (if r.state.found (entry r.runs (q - runs_at u)) 0)

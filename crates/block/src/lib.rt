@@ -8,34 +8,52 @@ ghost use Rattle.sums.specs.Table.{entry};
 ghost use Rattle.lent.specs.Splice.{spliced};
 ghost use Rattle.model.specs.Nogood.{MOST_LIMIT};
 ghost use Rattle.shape.specs.Shape.{block_size};
-ghost use Rattle.block.specs.Block.{status_of, mark_length, block_word, Placed, put_at};
+ghost use Rattle.block.specs.Block.{status_number, status_of, mark_length, block_word, Placed, put_at};
 
 use model::Layout;
 use search::Reply;
 use shape::{COST_PLACE, START_PLACE};
 use state::Walked;
 
-// The number of a status.
-fn status(found: bool, w: Walked) -> u32
-    ensures { result ≡ status_of found w }
-{
-    match w {
-        Walked::Dead(_) => {
-            if found {
-                return 1;
-            }
-            2
-        }
-        Walked::Spent(_) => {
-            if found {
-                return 3;
-            }
-            4
+// What a reply says: a plan, none, a best before the mark, or a mark alone.
+#[derive(Clone, Copy, Debug, PartialEq, Eq)]
+enum Status {
+    Optimal,
+    Infeasible,
+    Incumbent,
+    Unknown,
+}
+
+impl Status {
+    // Its number in document 01.
+    #[tactic(auto, unfolding(crate::specs::Block::status_number))]
+    fn number(self) -> u32
+        ensures { result ≡ status_number self }
+    {
+        match self {
+            Status::Optimal => 1,
+            Status::Infeasible => 2,
+            Status::Incumbent => 3,
+            Status::Unknown => 4,
         }
     }
 }
 
-// How many starts the mark has.
+// The status of a reply, by whether there is a schedule and how the walk ended.
+#[tactic(auto, unfolding(crate::specs::Block::status_of))]
+fn status_of(found: bool, w: Walked) -> Status
+    ensures { result ≡ status_of found w }
+{
+    match (w, found) {
+        (Walked::Dead(_), true) => Status::Optimal,
+        (Walked::Dead(_), false) => Status::Infeasible,
+        (Walked::Spent(_), true) => Status::Incumbent,
+        (Walked::Spent(_), false) => Status::Unknown,
+    }
+}
+
+// How many starts the mark has. No Option: a mark that there is not has as many words as one without starts.
+#[tactic(auto, unfolding(crate::specs::Block::mark_length))]
 fn mark_length(w: Walked) -> usize
     ensures { result ≡ mark_length w }
 {
@@ -46,6 +64,7 @@ fn mark_length(w: Walked) -> usize
 }
 
 // A start of an array as a word.
+#[tactic(auto, unfolding(sums::specs::Table::entry))]
 fn start_word(xs: [u8; 16], i: usize) -> u32
     requires { i < 16 }
     ensures { result ≡ entry xs i }
@@ -57,10 +76,7 @@ fn start_word(xs: [u8; 16], i: usize) -> u32
 fn where_found(found: bool, word: u32) -> u32
     ensures { result ≡ if found word 0 }
 {
-    if found {
-        return word;
-    }
-    0
+    if found { word } else { 0 }
 }
 
 // Word q of a reply's block.
@@ -71,31 +87,21 @@ fn word(l: Layout, reply: Reply, q: usize) -> u32
     ensures { result ≡ block_word l.units l.weeks reply q }
 {
     let st = reply.state;
-    let w = reply.walked;
-    let found = st.found;
-    if q < COST_PLACE {
-        return status(found, w);
-    }
-    if q < START_PLACE {
-        let cost = st.limit;
-        return where_found(found, cost.0 as u32);
-    }
     let runs_at = shape::runs_at(l.units);
-    if q < runs_at {
-        let best = st.best;
-        return where_found(found, start_word(best, q - START_PLACE));
-    }
     let mark_at = shape::mark_at(l.units, l.weeks);
-    if q < mark_at {
-        let runs = reply.runs;
-        return where_found(found, runs[q - runs_at]);
+    if q < COST_PLACE {
+        status_of(st.found, reply.walked).number()
+    } else if q < START_PLACE {
+        where_found(st.found, st.limit.0 as u32)
+    } else if q < runs_at {
+        where_found(st.found, start_word(st.best, q - START_PLACE))
+    } else if q < mark_at {
+        where_found(st.found, reply.runs[q - runs_at])
+    } else if q - mark_at < mark_length(reply.walked) {
+        start_word(st.mark, q - mark_at)
+    } else {
+        0
     }
-    let i = q - mark_at;
-    if i < mark_length(w) {
-        let mark = st.mark;
-        return start_word(mark, i);
-    }
-    0
 }
 
 // Writes a reply's block from a place on; the words before and behind it are kept.
@@ -106,6 +112,7 @@ fn put_at(answers: &mut [u32], at: usize, l: Layout, reply: Reply)
         spliced at (list_to (block_size l.units l.weeks) (block_word l.units l.weeks reply)) answers.old }
 {
     let size = shape::block_size(l.units, l.weeks);
+    // By index: what is claimed of a word is claimed at its place among the lent words.
     for q in 0..size {
         answers[at + q] = word(l, reply, q);
     }

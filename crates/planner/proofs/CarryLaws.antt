@@ -1,13 +1,14 @@
 -- One ask of a run: what it is told by the carry or by a search, and what is remembered of its answer.
 -- Assumes nothing.
-use Prim.Native.Nat.{ℕ, ◌+◌, ◌≤◌, ◌<◌, max}
+use Prim.Native.Nat.{ℕ, ◌≤◌, ◌<◌}
 use mathlib.Core.Path.{◌≡◌, refl, sym, ◌∙◌, ap, ap₂, subst, subst₂}
 use mathlib.Core.Bool.{Bool, true, false}
 use mathlib.Core.List.{List}
 use native.Mathlib.Omega.{arith}
 use lib.Dec.{ltb}
 use borrow.Author.Tests.{lt-ltb, le-ltb}
-use Rattle.sums.proofs.LogicLaws.{or_left, or_right}
+use Rattle.std.specs.Prelude.{Some, None}
+use Rattle.sums.proofs.LogicLaws.{true_false, or_left, or_right}
 use Rattle.model.specs.Problem.{Problem}
 use Rattle.model.specs.Best.{Region}
 use Rattle.model.specs.Nogood.{Nogood}
@@ -15,13 +16,10 @@ use Rattle.model.specs.Answer.{infeasible, Found, Correct}
 use Rattle.model.specs.Asks.{Leaves}
 use Rattle.nogood.specs.Stock.{Stock, Grown}
 use Rattle.nogood.proofs.StockLaws.{grown_none}
-use Rattle.instance.specs.declared.Euro.{Euro}
-use Rattle.state.specs.declared.Walked.{Walked}
-use Rattle.state.specs.declared.Walked.TheVariants.{Dead, Spent}
 use Rattle.search.specs.declared.Reply.{Reply}
 use Rattle.search.specs.Ask.{answer_for, answer_of, Asked}
 use Rattle.planner.specs.declared.Carry.{Carry}
-use Rattle.planner.specs.Carry.{PlanKnown, AskReady, SaysNone, settled_by, with_used, Replied, Keeps, Remembered}
+use Rattle.planner.specs.Carry.{PlanKnown, has_plan, AskReady, SaysNone, settled_by, with_used, Replied}
 
 -- ---- what an ask is told
 
@@ -53,8 +51,8 @@ module _ (p : Problem) (ceiling budget : ℕ) (m : Carry) (w : List ℕ) (ready 
   replied_none h n = record {
     correct = subst (Correct p ceiling budget) (sym none) (λ q i a. omega (arith, ready.knows.least.costs q a.sound, a.cheap));
     below = λ l. none;
-    again = λ k l. absurd (omega arith);
-    stock = nothing_added (or_right m.known (ltb ceiling m.least.0) (lt-ltb ceiling m.least.0 h)) n.words;
+    again = λ q k l. absurd (omega arith);
+    stock = nothing_added (or_right (has_plan m.plan) (ltb ceiling m.least.0) (lt-ltb ceiling m.least.0 h)) n.words;
     words = λ k u l. omega (arith, n.words);
     long = refl;
     small = n.small;
@@ -65,74 +63,41 @@ module _ (p : Problem) (ceiling budget : ℕ) (m : Carry) (w : List ℕ) (ready 
           ap₂ (answer_for p r.state.limit.0 r.state.best r.state.mark r.runs) n.nothing n.ended
 
   -- the known plan, from its cost on
-  pub replied_again : m.least.0 ≤ ceiling → m.known ≡ true → r ≡ with_used m.plan m.used → Replied p ceiling budget m w w r
+  pub replied_again : (q : Reply) → m.least.0 ≤ ceiling → m.plan ≡ Some q → r ≡ with_used q m.used → Replied p ceiling budget m w w r
   unfolding settled_by
-  replied_again h k e = record {
+  replied_again q h k e = record {
     correct = subst (Correct p ceiling budget) (sym (same ∙ plan.is)) (found_under p m.least.0 ceiling m.least.0 _ plan.starts
         plan.runs plan.found h);
     below = λ l. absurd (omega arith);
-    again = λ g l. same;
-    stock = nothing_added (or_left m.known (ltb ceiling m.least.0) k) words;
+    again = λ x z l. let one : q ≡ x = cc in same ∙ ap (answer_of p) one;
+    stock = nothing_added (or_left (has_plan m.plan) (ltb ceiling m.least.0) (ap has_plan k)) words;
     words = λ n u l. omega (arith, words);
     long = refl;
-    small = omega (arith, ap (λ (x : Reply). x.state.limit.0) e, ready.knows.small);
+    small = omega (arith, ap (λ (x : Reply). x.state.limit.0) e, plan.small);
   }
     where
-      plan : PlanKnown p m
-      plan = ready.knows.plan k
+      plan : PlanKnown p m.least.0 q
+      plan = ready.knows.plan q k
 
-      same : answer_of p r ≡ answer_of p m.plan
+      same : answer_of p r ≡ answer_of p q
       same = ap (answer_of p) e
 
       words : r.state.used ≡ m.used
       words = ap (λ (x : Reply). x.state.used) e
 
   -- what the search finds
-  pub replied_solved : (w' : List ℕ) → m.least.0 ≤ ceiling → m.known ≡ false → Asked p ceiling budget w m.used w' r
+  pub replied_solved : (w' : List ℕ) → m.least.0 ≤ ceiling → m.plan ≡ None → Asked p ceiling budget w m.used w' r
       → Replied p ceiling budget m w w' r
   unfolding settled_by
   replied_solved w' h k a = record {
     correct = a.correct;
     below = λ l. absurd (omega arith);
-    again = λ g l. absurd (false_true g);
+    again = λ q z l. true_false (sym (ap has_plan z) ∙ ap has_plan k);
     stock = λ gs s. subst (λ (b : Bool). Grown p (Leaves b ceiling (answer_of p r)) gs w' r.state.used) (sym unsettled) (a.stock gs s);
     words = a.room;
     long = a.long;
     small = a.small;
   }
     where
-      false_true : m.known ≡ true → ⊥
-      false_true g = let z : true ≡ false = sym g ∙ k in let n : ◌≡◌ {A = ℕ} 0 1 = cc in omega arith
-
       unsettled : settled_by m ceiling ≡ false
       unsettled = rw (k, le-ltb ceiling m.least.0 h)
-
--- ---- what is remembered
-
-module _ (m : Carry) (c : ℕ) (r : Reply) where
-  kept : (m' : Carry) (f : Bool) (e : Walked) → r.state.found ≡ f → r.walked ≡ e
-      → ((p : Problem) → Keeps m c r m' (answer_for p r.state.limit.0 r.state.best r.state.mark r.runs f e))
-      → (p : Problem) → Keeps m c r m' (answer_of p r)
-  kept m' f e g h k p =
-      subst₂ (λ (x : Bool) (y : Walked). Keeps m c r m' (answer_for p r.state.limit.0 r.state.best r.state.mark r.runs x y))
-      (sym g) (sym h) (k p)
-
-  -- a plan
-  pub remembered_plan : (b : ℕ) → r.walked ≡ Dead b → r.state.found ≡ true
-      → Remembered m c r (record { plan = r; least = r.state.limit; used = r.state.used; known = true })
-  remembered_plan b e f = record { words = refl; keeps = kept (record { plan = r; least = r.state.limit; used = r.state.used; known = true }) true (Dead b) f e (λ p. (refl, refl, refl)) }
-
-  -- that there is none
-  pub remembered_none : (b : ℕ) (least : Euro) → r.walked ≡ Dead b → r.state.found ≡ false → least.0 ≡ max m.least.0 (c + 1)
-      → Remembered m c r (record { plan = m.plan; least = least; used = r.state.used; known = m.known })
-  remembered_none b least e f l = record { words = refl; keeps = kept (record { plan = m.plan; least = least; used = r.state.used; known = m.known }) false (Dead b) f e (λ p. (refl, l, refl)) }
-
-  -- of a spent ask, nothing
-  pub remembered_spent : (n : ℕ) → r.walked ≡ Spent n
-      → Remembered m c r (record { plan = m.plan; least = m.least; used = r.state.used; known = m.known })
-  remembered_spent n e = record { words = refl; keeps = go r.state.found refl }
-    where
-      go : (f : Bool) → r.state.found ≡ f → (p : Problem)
-          → Keeps m c r (record { plan = m.plan; least = m.least; used = r.state.used; known = m.known }) (answer_of p r)
-      go true f = kept (record { plan = m.plan; least = m.least; used = r.state.used; known = m.known }) true (Spent n) f e (λ p. (refl, refl, refl))
-      go false f = kept (record { plan = m.plan; least = m.least; used = r.state.used; known = m.known }) false (Spent n) f e (λ p. (refl, refl, refl))

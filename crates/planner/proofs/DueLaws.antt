@@ -2,10 +2,11 @@
 -- Assumes nothing.
 use Prim.Native.Nat.{ℕ, ◌+◌, ◌/◌, ◌≤◌, ◌<◌}
 use mathlib.Core.Path.{◌≡◌, refl, ◌∙◌, subst}
-use mathlib.Core.Bool.{Bool, true, false}
+use mathlib.Core.Bool.{Bool}
 use mathlib.Core.List.{List}
 use native.Mathlib.Omega.{arith}
 use lib.ListN.{length, replicate}
+use Rattle.std.specs.Prelude.{Some, None}
 use Rattle.model.specs.declared.Layout.{Layout}
 use Rattle.model.specs.Nogood.{MOST_LIMIT}
 use Rattle.model.specs.Words.{problem_of}
@@ -16,20 +17,15 @@ use Rattle.memo.proofs.EntryLaws.{right_empty}
 use Rattle.tables.specs.Tables.{price_in, First, Priced}
 use Rattle.relaxation.specs.Relaxed as relaxed
 use Rattle.relaxation.proofs.ValueLaws.{recalls_empty, recalls_others}
-use Rattle.prices.specs.Ranges.{PricedFile}
 use Rattle.prices.proofs.RangeLaws.{priced_first}
-use Rattle.dual.specs.Dual.{Dual}
 use Rattle.farkas.specs.Sums.{ShowsNone}
-use Rattle.farkas.specs.declared.Findings.{Findings}
 use Rattle.search.specs.declared.Reply.{Reply}
 use Rattle.walk.specs.Walk.{Walking}
 use Rattle.search.specs.Ask.{AskDue, Asked}
 use Rattle.asks.specs.Admitted.{Admitted}
-use Rattle.block.specs.Block.{put_at}
 use Rattle.planner.specs.declared.Carry.{Carry}
-use Rattle.planner.specs.Carry.{SaysNothing, SaysNone, with_used, Remembered}
-use Rattle.planner.specs.Going.{Turned}
-use Rattle.planner.specs.Due.{ReplyDue, OpenDue, Told, PutDue, TurnPut, TurnDue, RunDue}
+use Rattle.planner.specs.Carry.{SaysNothing, SaysNone, with_used}
+use Rattle.planner.specs.Due.{ReplyDue, OpenDue, Told, PutDue, TurnPut, StartDue, RunDue}
 use Rattle.planner.proofs.CarryLaws.{replied_none, replied_again, replied_solved}
 use Rattle.planner.proofs.GoingLaws.{ask_placed, transposed, going_start, going_ready, going_answered, admitted_still}
 
@@ -53,17 +49,17 @@ module _ (ws : List ℕ) (l : Layout) (us asks : List ℕ) (k : ℕ) (m : Carry)
     }
 
     -- from there on: the plan again
-    pub told_again : (r : Reply) → m.least.0 ≤ ceiling → m.known ≡ true → r ≡ with_used m.plan m.used → Told ws l us asks k m w w memo r shown
+    pub told_again : (q r : Reply) → m.least.0 ≤ ceiling → m.plan ≡ Some q → r ≡ with_used q m.used → Told ws l us asks k m w w memo r shown
     unfolding ReplyDue Told
-    told_again r least known is = record {
-      replied = replied_again (problem_of ws) (ceiling_at asks k) (budget_at asks k) m w d.ready r (omega arith) known is;
+    told_again q r least known is = record {
+      replied = replied_again (problem_of ws) (ceiling_at asks k) (budget_at asks k) m w d.ready r q (omega arith) known is;
       recalls = d.walking.recalls;
       filed = d.walking.filed;
       none = d.none;
     }
 
     -- else a search
-    pub told_open : m.least.0 ≤ ceiling → m.known ≡ false → OpenDue ws l us asks k m shown w memo
+    pub told_open : m.least.0 ≤ ceiling → m.plan ≡ None → OpenDue ws l us asks k m shown w memo
     unfolding ReplyDue OpenDue
     told_open least unknown = record { due = d; least = omega arith; unknown = unknown }
 
@@ -74,141 +70,102 @@ module _ (ws : List ℕ) (l : Layout) (us asks : List ℕ) (k : ℕ) (m : Carry)
   open_few = d.due.few
 
   -- what the search asks
-  pub open_asks : (ceiling budget used : ℕ) (free : Findings) → free.shown ≡ shown → used ≡ m.used → ceiling < MOST_LIMIT
-      → AskDue ws l us (record { ceiling = ceiling; budget = budget; free = free }) w used memo
+  pub open_asks : (ceiling budget : ℕ) → ceiling < MOST_LIMIT → AskDue ws l us (record { ceiling = ceiling; budget = budget }) shown w m.used memo
   unfolding OpenDue
-  open_asks ceiling budget used free known is small = record {
+  open_asks ceiling budget small = record {
     walking = d.due.walking;
     ceiled = small;
-    none = rw known d.due.none;
-    room = rw is d.due.ready.room;
-    held = rw is d.due.ready.held;
+    none = d.due.none;
+    room = d.due.ready.room;
+    held = d.due.ready.held;
   }
 
   -- what it tells
-  pub open_told : (ceiling budget used : ℕ) (w' memo' : List ℕ) (r : Reply) (shown' : Bool) → ceiling ≡ ceiling_at asks k → budget ≡ budget_at asks k
-      → used ≡ m.used → Asked (problem_of ws) ceiling budget w used w' r → ShowsNone (problem_of ws) shown' → relaxed.MemoTrue (problem_of ws) (price_in us) memo'
+  pub open_told : (ceiling budget : ℕ) (w' memo' : List ℕ) (r : Reply) (shown' : Bool) → ceiling ≡ ceiling_at asks k → budget ≡ budget_at asks k
+      → Asked (problem_of ws) ceiling budget w m.used w' r → ShowsNone (problem_of ws) shown' → relaxed.MemoTrue (problem_of ws) (price_in us) memo'
       → Told ws l us asks k m w w' memo' r shown'
   unfolding OpenDue Told
-  open_told ceiling budget used w' memo' r shown' e b is asked none recalls = record {
+  open_told ceiling budget w' memo' r shown' e b asked none recalls = record {
     replied = replied_solved (problem_of ws) (ceiling_at asks k) (budget_at asks k) m w d.due.ready r w' d.least d.unknown
         (subst (λ (n : ℕ). Asked (problem_of ws) (ceiling_at asks k) n w m.used w' r) b
-        (subst (λ (n : ℕ). Asked (problem_of ws) n budget w m.used w' r) e
-        (subst (λ (n : ℕ). Asked (problem_of ws) ceiling budget w n w' r) is asked)));
+        (subst (λ (n : ℕ). Asked (problem_of ws) n budget w m.used w' r) e asked));
     recalls = recalls;
     filed = d.due.walking.filed;
     none = none;
   }
-
--- the block was put, and is remembered
-pub turn_put : (l : Layout) (asks : List ℕ) (k ceiling : ℕ) (m : Carry) (told : Reply) (answers answers' : List ℕ) (m' : Carry)
-    → ceiling ≡ ceiling_at asks k → answers' ≡ put_at l k told answers → Remembered m ceiling told m' → TurnPut l asks k m told answers answers' m'
-turn_put l asks k ceiling m told answers answers' m' e put kept = record { put = put; kept = subst (λ (n : ℕ). Remembered m n told m') e kept }
-
-module _ (ws : List ℕ) (l : Layout) (us asks : List ℕ) (k : ℕ) (m : Carry) (shown : Bool) (n : ℕ) (w memo : List ℕ)
-    (d : TurnDue ws l us asks k m shown n w memo) where
-  -- what its reply asks
-  pub turn_replies : ReplyDue ws l us asks k m shown w memo
-  unfolding TurnDue ReplyDue
-  turn_replies = d.due
-
-  module _ (w' memo' : List ℕ) (r : Reply) (shown' : Bool) (told : Told ws l us asks k m w w' memo' r shown') where
-    -- what its block asks
-    pub turn_puts : PutDue l asks k r n
-    unfolding TurnDue Told
-    turn_puts = record {
-      few = d.due.few;
-      placed = ask_placed ws asks l k (length w) n d.admitted d.less;
-      small = told.replied.small;
-    }
-
-module _ (ws : List ℕ) (l : Layout) (us asks : List ℕ) (k : ℕ) (m : Carry) (w w' memo : List ℕ) (r : Reply) (shown : Bool)
-    (told : Told ws l us asks k m w w' memo r shown) where
-  -- it is one ask more
-  pub turn_done : (answers answers' : List ℕ) (m' : Carry) → TurnPut l asks k m r answers answers' m' → Turned (problem_of ws) asks answers w m k answers' w' m'
-  unfolding Told
-  turn_done answers answers' m' put =
-      transposed ws asks l k told.filed answers answers' w w' m m' r told.replied put.put put.kept
-
-  -- the memo recalls
-  pub told_recalls : relaxed.MemoTrue (problem_of ws) (price_in us) memo
-  unfolding Told
-  told_recalls = told.recalls
-
-  -- what is known of the free plant is true
-  pub told_shown : ShowsNone (problem_of ws) shown
-  unfolding Told
-  told_shown = told.none
 
 -- ---- a run
 
 module _ (ws : List ℕ) (l : Layout) (us asks lent table₀ answers table : List ℕ) (m : Carry) (shown : Bool) (k : ℕ) (memo : List ℕ)
     (h : RunDue ws l us asks lent table₀ answers table m shown k memo) where
   -- the next ask
-  pub runs_turn : (n : ℕ) → n ≡ length asks / 2 → k < n → TurnDue ws l us asks k m shown (length answers) table memo
-  unfolding RunDue TurnDue ask_count
-  runs_turn n e less =
-      let ok = admitted_still ws l asks (length table₀) (length lent) (length table) (length answers) h.admitted h.long h.room in
-      let few : k < 32 = omega (arith, ok.few) in
-      record {
-        admitted = ok;
-        less = omega arith;
-        due = record {
-          walking = h.walking;
-          few = few;
-          ready = going_ready (problem_of ws) asks lent answers table m k h.going few (omega (arith, ok.long));
-          none = h.none;
-        };
+  module _ (n : ℕ) (e : n ≡ length asks / 2) (less : k < n) where
+    few : k < 32
+    unfolding RunDue ask_count
+    few = omega (arith, h.admitted.few)
+
+    pub runs_reply : ReplyDue ws l us asks k m shown table memo
+    unfolding RunDue ReplyDue
+    runs_reply = record {
+      walking = h.walking;
+      few = few;
+      ready = going_ready (problem_of ws) asks lent answers table m k h.going few (omega (arith, h.admitted.long, h.long));
+      none = h.none;
+    }
+
+    -- it was told
+    module _ (table' memo' : List ℕ) (r : Reply) (shown' : Bool) (told : Told ws l us asks k m table table' memo' r shown') where
+      -- its block is put
+      pub runs_put : PutDue l asks k r (length answers)
+      unfolding RunDue Told ask_count
+      runs_put =
+          let ok = admitted_still ws l asks (length table₀) (length lent) (length table) (length answers) h.admitted h.long h.room in
+          record {
+            few = few;
+            placed = ask_placed ws asks l k (length table) (length answers) ok (omega arith);
+            small = told.replied.small;
+          }
+
+      -- and the run is one ask further
+      pub runs_next : (answers' : List ℕ) (m' : Carry) → TurnPut l asks k m r answers answers' m' → length answers' ≡ length answers
+          → RunDue ws l us asks lent table₀ answers' table' m' shown' (k + 1) memo'
+      unfolding RunDue Told
+      runs_next answers' m' put ea = record {
+        admitted = h.admitted;
+        walking = record { filed = h.walking.filed; dual = h.walking.dual; recalls = told.recalls };
+        going = (transposed ws asks l k told.filed answers answers' table table' m m' r told.replied put.put put.kept).next lent h.going;
+        long = told.replied.long ∙ h.long;
+        room = ea ∙ h.room;
+        none = told.none;
       }
-
-  -- its number fits a word
-  pub runs_fit : (n : ℕ) → n ≡ length asks / 2 → k < n → k + 1 < 18446744073709551616
-  unfolding RunDue ask_count
-  runs_fit n e less = omega (arith, h.admitted.few)
-
-  -- it was answered
-  pub runs_next : (answers' table' : List ℕ) (m' : Carry) (shown' : Bool) (memo' : List ℕ) → Turned (problem_of ws) asks answers table m k answers' table' m'
-      → ShowsNone (problem_of ws) shown' → relaxed.MemoTrue (problem_of ws) (price_in us) memo' → length answers' ≡ length answers → length table' ≡ length table
-      → RunDue ws l us asks lent table₀ answers' table' m' shown' (k + 1) memo'
-  unfolding RunDue
-  runs_next answers' table' m' shown' memo' turn none recalls ea et = record {
-    admitted = h.admitted;
-    walking = record { filed = h.walking.filed; dual = h.walking.dual; recalls = recalls };
-    going = turn.next lent h.going;
-    long = et ∙ h.long;
-    room = ea ∙ h.room;
-    none = none;
-  }
 
   -- all of them
   pub runs_ended : (n : ℕ) → n ≡ length asks / 2 → k ≤ n → n ≤ k → Answered (problem_of ws) asks lent answers table
   unfolding RunDue
   runs_ended n e a b = going_answered (problem_of ws) asks lent answers table m k n h.going a b e
 
-  pub runs_long : length table ≡ length table₀
-  unfolding RunDue
-  runs_long = h.long
+-- it may begin
+pub starts : (ws : List ℕ) (l : Layout) (us asks : List ℕ) (shown : Bool) (answers table memo : List ℕ) → Admitted ws l asks (length table) (length answers)
+    → table ≡ replicate (length table) 0 → Walking ws l us memo → ShowsNone (problem_of ws) shown → StartDue ws l us asks shown answers table memo
+unfolding StartDue
+starts ws l us asks shown answers table memo ok none walking known = record { admitted = ok; emptied = none; walking = walking; none = known }
 
 -- before the first ask, with an emptied table
-pub runs_start : (ws : List ℕ) (l : Layout) (us asks answers table : List ℕ) (m : Carry) (shown : Bool) (memo : List ℕ) → Admitted ws l asks (length table) (length answers)
-    → table ≡ replicate (length table) 0 → SaysNothing m → Walking ws l us memo → ShowsNone (problem_of ws) shown
-    → RunDue ws l us asks answers table answers table m shown 0 memo
-unfolding RunDue
-runs_start ws l us asks answers table m shown memo ok none says walking known = record {
-  admitted = ok;
-  walking = walking;
-  going = going_start (problem_of ws) asks answers table m (length table) none says;
+pub runs_start : (ws : List ℕ) (l : Layout) (us asks answers table : List ℕ) (m : Carry) (shown : Bool) (memo : List ℕ)
+    → StartDue ws l us asks shown answers table memo → SaysNothing m → RunDue ws l us asks answers table answers table m shown 0 memo
+unfolding StartDue RunDue
+runs_start ws l us asks answers table m shown memo d says = record {
+  admitted = d.admitted;
+  walking = d.walking;
+  going = going_start (problem_of ws) asks answers table m (length table) d.emptied says;
   long = refl;
   room = refl;
-  none = known;
+  none = d.none;
 }
 
 -- ---- the table of a walk
 
--- a table without prices serves the free plant, and a run where there is no schedule
-pub bare_file : (ws : List ℕ) (l : Layout) (us : List ℕ) → Filed ws l → First (problem_of ws) (problem_of ws).units us → PricedFile ws l us
-bare_file ws l us f h = priced_first ws l us f h
-
+-- a table without prices serves a run where there is no schedule
 pub bare_priced : (ws : List ℕ) (l : Layout) (us : List ℕ) → Filed ws l → First (problem_of ws) (problem_of ws).units us → Priced (problem_of ws) us
 bare_priced ws l us f h = (priced_first ws l us f h).priced
 
@@ -225,7 +182,3 @@ module _ (ws : List ℕ) (l : Layout) (memo : List ℕ) (f : Filed ws l) (none :
   pub emptied_recalls : (us memo' : List ℕ) → Right (problem_of ws) memo' → Others memo memo' → relaxed.MemoTrue (problem_of ws) (price_in us) memo'
   emptied_recalls us memo' right others =
       recalls_others (problem_of ws) (price_in us) memo memo' (recalls_empty (problem_of ws) (price_in us) memo (length memo) none) right others
-
-  -- with all parts it is ready for walks
-  pub walking_of : (us memo' : List ℕ) → Dual (problem_of ws) us → relaxed.MemoTrue (problem_of ws) (price_in us) memo' → Walking ws l us memo'
-  walking_of us memo' dual recalls = record { filed = f; dual = dual; recalls = recalls }

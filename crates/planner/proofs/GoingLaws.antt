@@ -33,7 +33,7 @@ use Rattle.asks.specs.Admitted.{Admitted}
 use Rattle.block.specs.Block.{block_word, Placed, put_at}
 use Rattle.block.proofs.ListedLaws.{block_listed}
 use Rattle.planner.specs.declared.Carry.{Carry}
-use Rattle.planner.specs.Carry.{settled_by, Remembers, AskReady, SaysNothing, Replied, Remembered}
+use Rattle.planner.specs.Carry.{has_plan, settled_by, Remembers, AskReady, SaysNothing, Replied, Remembered}
 use Rattle.planner.specs.Going.{Going, Turned}
 use Rattle.planner.proofs.TurnLaws.{knows_next, recalls_old, recalls_new, follows_new, settled_next}
 
@@ -216,8 +216,7 @@ going_start p asks lent table m n e h = record {
   room = omega (arith, h.words);
   knows = record {
     least = record { costs = λ s d. omega (arith, h.least) };
-    plan = λ k. absurd (true_false (sym k ∙ h.unknown));
-    small = h.small;
+    plan = λ q k. true_false (sym (ap has_plan k) ∙ ap has_plan h.unknown);
   };
   recalls = λ i l. absurd (omega arith);
   settled_by_lem = λ d. sym (rw (h.unknown, le-ltb d m.least.0 (omega (arith, h.least))));

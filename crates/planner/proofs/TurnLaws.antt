@@ -8,6 +8,7 @@ use mathlib.Core.Logic.{◌⊎◌, inl, inr, ⊎_elim}
 use native.Mathlib.Omega.{arith}
 use lib.Dec.{ltb, leb}
 use borrow.Author.Tests.{lt-ltb, ltb-true, le-leb, leb-true}
+use Rattle.std.specs.Prelude.{Option, Some}
 use Rattle.sums.proofs.LogicLaws.{lt_or_ge, or_last_false, or_left, or_right, same_test}
 use Rattle.model.specs.Problem.{Problem}
 use Rattle.model.specs.Schedule.{Schedule, schedule_of, Sound, cost}
@@ -18,7 +19,7 @@ use Rattle.search.specs.declared.Reply.{Reply}
 use Rattle.walk.specs.Walk.{AllSettled}
 use Rattle.search.specs.Ask.{answer_of}
 use Rattle.planner.specs.declared.Carry.{Carry}
-use Rattle.planner.specs.Carry.{PlanKnown, Knows, settled_by, Remembers, Replied, Keeps}
+use Rattle.planner.specs.Carry.{PlanKnown, Knows, has_plan, settled_by, Remembers, Replied, Keeps}
 use Rattle.planner.proofs.CarryLaws.{found_under}
 
 -- ---- answers
@@ -47,52 +48,45 @@ plan_not_none k ss rs e = let z : ◌≡◌ {A = ℕ} 1 2 = ap status_in e in ab
 module _ (p : Problem) (ceiling budget : ℕ) (m : Carry) (w w' : List ℕ) (r : Reply) (knows : Knows p m) (told : Replied p ceiling budget m w w' r)
     (m' : Carry) where
   -- where a plan is known, none is told below its cost alone
-  none_below : answer_of p r ≡ infeasible → m.known ≡ true → ceiling < m.least.0
-  none_below e k =
+  none_below : answer_of p r ≡ infeasible → (q : Reply) → m.plan ≡ Some q → ceiling < m.least.0
+  none_below e q k =
       ⊎_elim (λ (l : ceiling < m.least.0). l)
-      (λ (g : m.least.0 ≤ ceiling). plan_not_none m.least.0 plan.starts plan.runs (sym plan.is ∙ (sym (told.again k g) ∙ e)))
+      (λ (g : m.least.0 ≤ ceiling). plan_not_none m.least.0 plan.starts plan.runs (sym plan.is ∙ (sym (told.again q k g) ∙ e)))
       (lt_or_ge ceiling m.least.0)
     where
-      plan : PlanKnown p m
-      plan = knows.plan k
+      plan : PlanKnown p m.least.0 q
+      plan = knows.plan q k
 
   -- a known plan is told again
-  plan_again : (k : ℕ) (ss rs : List ℕ) → answer_of p r ≡ optimal k ss rs → m.known ≡ true → answer_of p r ≡ answer_of p m.plan
-  plan_again k ss rs e g =
-      ⊎_elim (λ (l : ceiling < m.least.0). plan_not_none k ss rs (sym e ∙ told.below l)) (told.again g) (lt_or_ge ceiling m.least.0)
+  plan_again : (k : ℕ) (ss rs : List ℕ) → answer_of p r ≡ optimal k ss rs → (q : Reply) → m.plan ≡ Some q → answer_of p r ≡ answer_of p q
+  plan_again k ss rs e q g =
+      ⊎_elim (λ (l : ceiling < m.least.0). plan_not_none k ss rs (sym e ∙ told.below l)) (told.again q g) (lt_or_ge ceiling m.least.0)
 
   -- the same carry, but for the words used
-  knows_same : (m'.known ≡ m.known) × (m'.least.0 ≡ m.least.0) × (m'.plan ≡ m.plan) → Knows p m'
+  knows_same : (m'.plan ≡ m.plan) × (m'.least.0 ≡ m.least.0) → Knows p m'
   knows_same e = record {
     least = subst (AllSettled p) (sym e.1) knows.least;
-    plan = λ k. go (knows.plan (sym e.0 ∙ k));
-    small = omega (arith, ap (λ (x : Reply). x.state.limit.0) e.2, knows.small);
+    plan = λ q k. subst (λ (x : ℕ). PlanKnown p x q) (sym e.1) (knows.plan q (sym e.0 ∙ k));
   }
-    where
-      go : PlanKnown p m → PlanKnown p m'
-      go h = record {
-        starts = h.starts;
-        runs = h.runs;
-        is = ap (answer_of p) e.2 ∙ h.is ∙ ap (λ (x : ℕ). optimal x h.starts h.runs) (sym e.1);
-        found = subst (λ (x : ℕ). Found p x Everywhere x h.starts h.runs) (sym e.1) h.found;
-      }
 
   -- is right
   pub knows_next : (a : Answer) → answer_of p r ≡ a → Correct p ceiling budget a → Keeps m ceiling r m' a → Knows p m'
   knows_next (optimal k ss rs) e c h = record {
     least = record { costs = λ s d. omega (arith, c.best.least s d tt, c.costs, h.1) };
-    plan = λ g. record {
+    plan = λ q g. subst (PlanKnown p m'.least.0) (one q g) (record {
       starts = ss;
       runs = rs;
-      is = ap (answer_of p) h.2 ∙ e ∙ ap (λ (x : ℕ). optimal x ss rs) (sym h.1);
+      is = e ∙ ap (λ (x : ℕ). optimal x ss rs) (sym h.1);
       found = subst (λ (x : ℕ). Found p x Everywhere x ss rs) (sym h.1) (found_under p ceiling k k Everywhere ss rs c (omega arith));
-    };
-    small = omega (arith, ap (λ (x : Reply). x.state.limit.0) h.2, told.small);
+      small = told.small;
+    });
   }
+    where
+      one : (q : Reply) → m'.plan ≡ Some q → r ≡ q
+      one q g = let z : Some r ≡ Some q = sym h.0 ∙ g in cc
   knows_next infeasible e c h = record {
     least = record { costs = dear };
-    plan = λ g. kept (none_below e (sym h.0 ∙ g)) g;
-    small = omega (arith, ap (λ (x : Reply). x.state.limit.0) h.2, knows.small);
+    plan = λ q g. kept (none_below e q (sym h.0 ∙ g)) q g;
   }
     where
       dear : (s : Schedule) → Sound p s → m'.least.0 ≤ cost p s
@@ -101,23 +95,22 @@ module _ (p : Problem) (ceiling budget : ℕ) (m : Carry) (w w' : List ℕ) (r :
           (λ (g : ceiling + 1 ≤ cost p s). omega (arith, h.1, knows.least.costs s d))
           (lt_or_ge (cost p s) (ceiling + 1))
 
-      kept : ceiling < m.least.0 → m'.known ≡ true → PlanKnown p m'
-      kept l g = (knows_same (h.0, omega (arith, h.1), h.2)).plan g
+      kept : ceiling < m.least.0 → (q : Reply) → m'.plan ≡ Some q → PlanKnown p m'.least.0 q
+      kept l q g = (knows_same (h.0, omega (arith, h.1))).plan q g
   knows_next (incumbent k ss rs mark) e c h = knows_same h
   knows_next (unknown mark) e c h = knows_same h
 
   -- what was told before is still in it
-  recalls_same : (m'.known ≡ m.known) → m.least.0 ≤ m'.least.0 → (m'.plan ≡ m.plan) → (c : ℕ)
-      (b : Answer) → Remembers p m c b → Remembers p m' c b
-  recalls_same k l q c (optimal n ss rs) g = (k ∙ g.0, ap (answer_of p) q ∙ g.1)
-  recalls_same k l q c infeasible g = omega arith
-  recalls_same k l q c (incumbent n ss rs mark) g = tt
-  recalls_same k l q c (unknown mark) g = tt
+  recalls_same : (m'.plan ≡ m.plan) → m.least.0 ≤ m'.least.0 → (c : ℕ) (b : Answer) → Remembers p m c b → Remembers p m' c b
+  recalls_same q l c (optimal n ss rs) g = record { plan = g.plan; is = q ∙ g.is; says = g.says }
+  recalls_same q l c infeasible g = omega arith
+  recalls_same q l c (incumbent n ss rs mark) g = tt
+  recalls_same q l c (unknown mark) g = tt
 
   recalls_plan : (n : ℕ) (ss rs : List ℕ) → answer_of p r ≡ optimal n ss rs → Found p ceiling Everywhere n ss rs → Keeps m ceiling r m'
       (optimal n ss rs)
       → (c : ℕ) (b : Answer) → Remembers p m c b → Remembers p m' c b
-  recalls_plan n ss rs e f h c (optimal k xs ys) g = (h.0, ap (answer_of p) h.2 ∙ plan_again n ss rs e g.0 ∙ g.1)
+  recalls_plan n ss rs e f h c (optimal k xs ys) g = record { plan = r; is = h.0; says = plan_again n ss rs e g.plan g.is ∙ g.says }
   recalls_plan n ss rs e f h c infeasible g =
       omega (arith, h.1, f.costs, knows.least.costs (schedule_of ss rs) f.best.allowed.sound)
   recalls_plan n ss rs e f h c (incumbent k xs ys mark) g = tt
@@ -126,13 +119,13 @@ module _ (p : Problem) (ceiling budget : ℕ) (m : Carry) (w w' : List ℕ) (r :
   pub recalls_old : (a : Answer) → answer_of p r ≡ a → Correct p ceiling budget a → Keeps m ceiling r m' a → (c : ℕ) (b : Answer) → Remembers p m c b
       → Remembers p m' c b
   recalls_old (optimal k ss rs) e f h = recalls_plan k ss rs e f h
-  recalls_old infeasible e f h = let l : m.least.0 ≤ m'.least.0 = omega (arith, h.1) in recalls_same h.0 l h.2
-  recalls_old (incumbent k ss rs mark) e f h = let l : m.least.0 ≤ m'.least.0 = omega (arith, h.1) in recalls_same h.0 l h.2
-  recalls_old (unknown mark) e f h = let l : m.least.0 ≤ m'.least.0 = omega (arith, h.1) in recalls_same h.0 l h.2
+  recalls_old infeasible e f h = let l : m.least.0 ≤ m'.least.0 = omega (arith, h.1) in recalls_same h.0 l
+  recalls_old (incumbent k ss rs mark) e f h = let l : m.least.0 ≤ m'.least.0 = omega (arith, h.1) in recalls_same h.0 l
+  recalls_old (unknown mark) e f h = let l : m.least.0 ≤ m'.least.0 = omega (arith, h.1) in recalls_same h.0 l
 
   -- and so is the answer
   pub recalls_new : (a : Answer) → answer_of p r ≡ a → Keeps m ceiling r m' a → Remembers p m' ceiling a
-  recalls_new (optimal k ss rs) e h = (h.0, ap (answer_of p) h.2 ∙ e)
+  recalls_new (optimal k ss rs) e h = record { plan = r; is = h.0; says = e }
   recalls_new infeasible e h = omega (arith, h.1)
   recalls_new (incumbent k ss rs mark) e h = tt
   recalls_new (unknown mark) e h = tt
@@ -140,19 +133,19 @@ module _ (p : Problem) (ceiling budget : ℕ) (m : Carry) (w w' : List ℕ) (r :
   -- the answer follows from what was told before
   pub follows_new : (c : ℕ) (b : Answer) → Remembers p m c b → Follows c b ceiling (answer_of p r)
   unfolding cost_in
-  follows_new c (optimal k ss rs) g = (λ l. told.again g.0 (omega (arith, same)) ∙ g.1, λ l. told.below (omega (arith, same)))
+  follows_new c (optimal k ss rs) g = (λ l. told.again g.plan g.is (omega (arith, same)) ∙ g.says, λ l. told.below (omega (arith, same)))
     where
       same : k ≡ m.least.0
-      same = ap cost_in (sym g.1 ∙ (knows.plan g.0).is)
+      same = ap cost_in (sym g.says ∙ (knows.plan g.plan g.is).is)
   follows_new c infeasible g = λ l. told.below (omega arith)
   follows_new c (incumbent k ss rs mark) g = tt
   follows_new c (unknown mark) g = tt
 
   -- ---- what is settled
 
-  settled_same : (d : ℕ) → (m'.known ≡ m.known) → (m'.least.0 ≡ m.least.0) → (settled_by m d || false) ≡ settled_by m' d
+  settled_same : (d : ℕ) → (m'.plan ≡ m.plan) → (m'.least.0 ≡ m.least.0) → (settled_by m d || false) ≡ settled_by m' d
   unfolding settled_by
-  settled_same d k l = or_last_false (m.known || ltb d m.least.0) ∙ ap₂ (λ (x : Bool) (n : ℕ). x || ltb d n) (sym k) (sym l)
+  settled_same d k l = or_last_false (has_plan m.plan || ltb d m.least.0) ∙ ap₂ (λ (x : Option Reply) (n : ℕ). has_plan x || ltb d n) (sym k) (sym l)
 
   -- an ask under d is settled by the carry or by none at the ceiling
   settled_none : (d : ℕ) (k : Bool) → ((k || ltb d m.least.0) || leb d ceiling) ≡ (k || ltb d (max m.least.0 (ceiling + 1)))
@@ -182,7 +175,7 @@ module _ (p : Problem) (ceiling budget : ℕ) (m : Carry) (w w' : List ℕ) (r :
   pub settled_next : (a : Answer) → Keeps m ceiling r m' a → (d : ℕ) → (settled_by m d || settles ceiling a d) ≡ settled_by m' d
   unfolding settled_by settles
   settled_next (optimal k ss rs) h d =
-      or_right (m.known || ltb d m.least.0) true refl ∙ sym (or_left m'.known (ltb d m'.least.0) h.0)
-  settled_next infeasible h d = settled_none d m.known ∙ ap₂ (λ (x : Bool) (n : ℕ). x || ltb d n) (sym h.0) (sym h.1)
+      or_right (has_plan m.plan || ltb d m.least.0) true refl ∙ sym (or_left (has_plan m'.plan) (ltb d m'.least.0) (ap has_plan h.0))
+  settled_next infeasible h d = settled_none d (has_plan m.plan) ∙ ap₂ (λ (x : Option Reply) (n : ℕ). has_plan x || ltb d n) (sym h.0) (sym h.1)
   settled_next (incumbent k ss rs mark) h d = settled_same d h.0 h.1
   settled_next (unknown mark) h d = settled_same d h.0 h.1

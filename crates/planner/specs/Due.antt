@@ -1,10 +1,10 @@
 -- What the functions of a run ask and give, as one fact each: a search for a proof enters every record it meets, and leaves these alone.
 -- Assumes nothing.
-use Rattle.std.specs.Prelude.{ℕ, ◌≤◌, ◌<◌, ◌≡◌, Bool, false, List, length}
+use Rattle.std.specs.Prelude.{ℕ, ◌≤◌, ◌<◌, ◌≡◌, Bool, None, List, length, replicate}
 use Rattle.model.specs.declared.Layout.{Layout}
 use Rattle.model.specs.Nogood.{MOST_LIMIT}
 use Rattle.model.specs.Words.{problem_of}
-use Rattle.model.specs.Asks.{ask_count, ceiling_at, budget_at}
+use Rattle.model.specs.Asks.{ceiling_at, budget_at}
 use Rattle.instance.specs.Filed.{Filed}
 use Rattle.tables.specs.Tables.{price_in}
 use Rattle.relaxation.specs.Relaxed as relaxed
@@ -33,7 +33,7 @@ ReplyDue ws l us asks k m shown w memo = ReplyNeeds ws l us asks k m shown w mem
 pub record OpenNeeds (ws : List ℕ) (l : Layout) (us asks : List ℕ) (k : ℕ) (m : Carry) (shown : Bool) (w memo : List ℕ) : Type 0 where
   pub due : ReplyNeeds ws l us asks k m shown w memo
   pub least : m.least.0 ≤ ceiling_at asks k
-  pub unknown : m.known ≡ false
+  pub unknown : m.plan ≡ None
 
 unfoldable pub OpenDue : (ws : List ℕ) → Layout → (us asks : List ℕ) → ℕ → Carry → Bool → (w memo : List ℕ) → Type 0
 OpenDue ws l us asks k m shown w memo = OpenNeeds ws l us asks k m shown w memo
@@ -59,16 +59,17 @@ pub record TurnPut (l : Layout) (asks : List ℕ) (k : ℕ) (m : Carry) (told : 
   pub put : answers' ≡ put_at l k told answers
   pub kept : Remembered m (ceiling_at asks k) told m'
 
--- ask k is to be answered, in so many words of answers
-pub record TurnNeeds (ws : List ℕ) (l : Layout) (us asks : List ℕ) (k : ℕ) (m : Carry) (shown : Bool) (room : ℕ) (w memo : List ℕ) : Type 0 where
-  pub admitted : Admitted ws l asks (length w) room
-  pub less : k < ask_count asks
-  pub due : ReplyNeeds ws l us asks k m shown w memo
-
-unfoldable pub TurnDue : (ws : List ℕ) → Layout → (us asks : List ℕ) → ℕ → Carry → Bool → ℕ → (w memo : List ℕ) → Type 0
-TurnDue ws l us asks k m shown room w memo = TurnNeeds ws l us asks k m shown room w memo
-
 -- ---- a run
+
+-- a run may begin, with an emptied table
+pub record Starting (ws : List ℕ) (l : Layout) (us asks : List ℕ) (shown : Bool) (answers table memo : List ℕ) : Type 0 where
+  pub admitted : Admitted ws l asks (length table) (length answers)
+  pub emptied : table ≡ replicate (length table) 0
+  pub walking : Walking ws l us memo
+  pub none : ShowsNone (problem_of ws) shown
+
+unfoldable pub StartDue : (ws : List ℕ) → Layout → (us asks : List ℕ) → Bool → (answers table memo : List ℕ) → Type 0
+StartDue ws l us asks shown answers table memo = Starting ws l us asks shown answers table memo
 
 -- a run with answers and a table as they were lent, after its first k asks
 pub record Running (ws : List ℕ) (l : Layout) (us asks lent table₀ answers table : List ℕ) (m : Carry) (shown : Bool) (k : ℕ) (memo : List ℕ) : Type 0 where

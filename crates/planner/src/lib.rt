@@ -2,25 +2,22 @@
 // nogoods and what they settle carried from each to the next.
 #![tactic(auto)]
 
-ghost use Rattle.std.specs.Prelude.{◌≡◌, ◌+◌, ◌<◌, max, length, replicate};
+ghost use Rattle.std.specs.Prelude.{◌≡◌, ◌+◌, ◌<◌, length, replicate};
 ghost use Rattle.model.specs.Words.{problem_of};
 ghost use Rattle.model.specs.Asks.{Answered, Ran};
 ghost use Rattle.decoder.specs.Answers.{verdict_of};
 ghost use Rattle.instance.specs.Filed.{Filed};
-ghost use Rattle.tables.specs.Tables.{TABLES, price_in, First};
-ghost use Rattle.farkas.specs.Sums.{ShowsNone};
-ghost use Rattle.relaxation.specs.Relaxed.{MemoTrue};
+ghost use Rattle.tables.specs.Tables.{TABLES, First};
 ghost use Rattle.walk.specs.Walk.{Walking};
 ghost use Rattle.asks.specs.Admitted.{Admitted};
 ghost use Rattle.planner.specs.Carry.{SaysNothing, SaysNone, with_used, Remembered};
-ghost use Rattle.planner.specs.Going.{Turned};
-ghost use Rattle.planner.specs.Due.{OpenDue, ReplyDue, Told, PutDue, TurnPut, TurnDue, RunDue};
+ghost use Rattle.planner.specs.Due.{OpenDue, ReplyDue, Told, PutDue, TurnPut, StartDue};
 
 use decoder::Refusal;
 use farkas::Findings;
 use instance::Euro;
 use model::Layout;
-use search::{Ask, Reply, Solved};
+use search::{Ask, Reply};
 use state::{State, Walked};
 use tables::TABLES;
 
@@ -28,18 +25,16 @@ use tables::TABLES;
 // the words of the table in use.
 #[derive(Clone, Copy)]
 pub struct Carry {
-    pub plan: Reply,
+    pub plan: Option<Reply>,
     pub least: Euro,
     pub used: usize,
-    pub known: bool,
 }
 
-// The turn of an ask: its number, from 0, what the asks before it have settled, and what is known of the free plant.
+// The turn of an ask: its number, from 0, and what the asks before it have settled.
 #[derive(Clone, Copy)]
 struct AskTurn {
     ask: usize,
     carry: Carry,
-    free: Findings,
 }
 
 // ---- a settled ask
@@ -68,14 +63,9 @@ fn no_plan(used: usize) -> Reply
 fn repeat_plan(plan: Reply, used: usize) -> Reply
     ensures { result ≡ with_used plan used }
 {
-    let mut s = plan.state;
-    s.used = used;
-    let walked = plan.walked;
-    let runs = plan.runs;
     Reply {
-        state: s,
-        walked,
-        runs,
+        state: State { used, ..plan.state },
+        ..plan
     }
 }
 
@@ -88,22 +78,19 @@ fn reply_searched(
     tables: &[u32; TABLES],
     asks: &[u32],
     turn: AskTurn,
+    free: &mut Findings,
     table: &mut [u32],
     scratch: &mut [u32],
-) -> Solved
-    requires { OpenDue words.now l tables.now asks.now turn.ask turn.carry turn.free.shown table.old scratch.old }
+) -> Reply
+    requires { OpenDue words.now l tables.now asks.now turn.ask turn.carry free.old.shown table.old scratch.old }
     ensures { Told words.now l tables.now asks.now turn.ask turn.carry table.old table.new
-        scratch.new result.reply result.free.shown }
+        scratch.new result free.new.shown }
 {
-    let k = turn.ask;
-    let free = turn.free;
-    let used = turn.carry.used;
     let ask = Ask {
-        ceiling: asks::ceiling(asks, k),
-        budget: asks::budget(asks, k),
-        free,
+        ceiling: asks::ceiling(asks, turn.ask),
+        budget: asks::budget(asks, turn.ask),
     };
-    search::solve(words, l, tables, ask, table, used, scratch)
+    search::solve(words, l, tables, ask, free, table, turn.carry.used, scratch)
 }
 
 // What the ask is told whose turn it is: at once where the carry settles it, else by a search (D66).
@@ -113,121 +100,52 @@ fn reply(
     tables: &[u32; TABLES],
     asks: &[u32],
     turn: AskTurn,
+    free: &mut Findings,
     table: &mut [u32],
     scratch: &mut [u32],
-) -> Solved
-    requires { ReplyDue words.now l tables.now asks.now turn.ask turn.carry turn.free.shown table.old scratch.old }
+) -> Reply
+    requires { ReplyDue words.now l tables.now asks.now turn.ask turn.carry free.old.shown table.old scratch.old }
     ensures { Told words.now l tables.now asks.now turn.ask turn.carry table.old table.new
-        scratch.new result.reply result.free.shown }
+        scratch.new result free.new.shown }
 {
     let m = turn.carry;
-    let free = turn.free;
     let ceiling = asks::ceiling(asks, turn.ask);
-    let used = m.used;
-    let least = m.least;
-    if (ceiling as u64) < least.0 {
-        return Solved {
-            reply: no_plan(used),
-            free,
-        };
+    if (ceiling as u64) < m.least.0 {
+        return no_plan(m.used);
     }
-    if m.known {
-        let plan = m.plan;
-        return Solved {
-            reply: repeat_plan(plan, used),
-            free,
-        };
+    match m.plan {
+        Some(plan) => repeat_plan(plan, m.used),
+        None => reply_searched(words, l, tables, asks, turn, free, table, scratch),
     }
-    reply_searched(words, l, tables, asks, turn, table, scratch)
-}
-
-// The larger of the least cost so far and a ceiling that nothing is at or below.
-fn raised(low: Euro, ceiling: u32) -> Euro
-    ensures { result.0 ≡ max low.0 (ceiling + 1) }
-{
-    if (ceiling as u64) < low.0 {
-        return low;
-    }
-    Euro(ceiling as u64 + 1)
 }
 
 // What is remembered after a reply: a plan, that there is none, or of a spent ask nothing (D65).
 fn remembered(m: Carry, ceiling: u32, told: Reply) -> Carry
     ensures { Remembered m ceiling told result }
 {
-    let st = told.state;
-    let w = told.walked;
-    let plan = m.plan;
-    let least = m.least;
-    match w {
-        Walked::Spent(_) => Carry {
-            plan,
-            least,
-            used: st.used,
-            known: m.known,
+    let used = told.state.used;
+    match told.walked {
+        Walked::Spent(_) => Carry { used, ..m },
+        Walked::Dead(_) if told.state.found => Carry {
+            plan: Some(told),
+            least: told.state.limit,
+            used,
         },
-        Walked::Dead(_) => {
-            if st.found {
-                let cost = st.limit;
-                return Carry {
-                    plan: told,
-                    least: cost,
-                    used: st.used,
-                    known: true,
-                };
-            }
-            Carry {
-                plan,
-                least: raised(least, ceiling),
-                used: st.used,
-                known: m.known,
-            }
-        }
+        Walked::Dead(_) => Carry {
+            least: Euro(m.least.0.max(ceiling as u64 + 1)),
+            used,
+            ..m
+        },
     }
 }
 
-// Puts the block of ask k into the lent words; what is carried then is given.
-fn put_turn(l: Layout, asks: &[u32], k: usize, m: Carry, told: Reply, answers: &mut [u32]) -> Carry
-    requires { PutDue l asks.now k told (length answers.old) }
-    ensures { TurnPut l asks.now k m told answers.old answers.new result }
+// Puts the block of the ask whose turn it is into the lent words (D23); what is carried then is given.
+fn put_turn(l: Layout, asks: &[u32], turn: AskTurn, told: Reply, answers: &mut [u32]) -> Carry
+    requires { PutDue l asks.now turn.ask told (length answers.old) }
+    ensures { TurnPut l asks.now turn.ask turn.carry told answers.old answers.new result }
 {
-    block::put(answers, l, k, told);
-    remembered(m, asks::ceiling(asks, k), told)
-}
-
-// What is carried from an ask to the next, and what is known of the free plant then.
-#[derive(Clone, Copy)]
-struct Onward {
-    carry: Carry,
-    free: Findings,
-}
-
-// Answers the ask whose turn it is; what is carried then is given (D23).
-fn answer(
-    words: &[u32],
-    l: Layout,
-    tables: &[u32; TABLES],
-    asks: &[u32],
-    turn: AskTurn,
-    answers: &mut [u32],
-    table: &mut [u32],
-    scratch: &mut [u32],
-) -> Onward
-    requires { TurnDue words.now l tables.now asks.now turn.ask turn.carry turn.free.shown (length answers.old) table.old scratch.old }
-    ensures answer { Turned (problem_of words.now) asks.now answers.old table.old turn.carry turn.ask
-        answers.new table.new result.carry }
-    ensures free { ShowsNone (problem_of words.now) result.free.shown }
-    ensures recalls { MemoTrue (problem_of words.now) (price_in tables.now) scratch.new }
-{
-    let k = turn.ask;
-    let m = turn.carry;
-    let solved = reply(words, l, tables, asks, turn, table, scratch);
-    let told = solved.reply;
-    let free = solved.free;
-    Onward {
-        carry: put_turn(l, asks, k, m, told, answers),
-        free,
-    }
+    block::put(answers, l, turn.ask, told);
+    remembered(turn.carry, asks::ceiling(asks, turn.ask), told)
 }
 
 // ---- a run
@@ -237,42 +155,34 @@ fn empty_carry() -> Carry
     ensures { SaysNothing result }
 {
     Carry {
-        plan: no_plan(0),
+        plan: None,
         least: Euro(0),
         used: 0,
-        known: false,
     }
 }
 
-// Every ask of a run in turn, from a carry before the first.
+// Every ask of a run in turn.
 fn answer_each(
     words: &[u32],
     l: Layout,
     tables: &[u32; TABLES],
     asks: &[u32],
-    first: Onward,
+    free: &mut Findings,
     answers: &mut [u32],
     table: &mut [u32],
     scratch: &mut [u32],
 )
-    requires { RunDue words.now l tables.now asks.now answers.old table.old answers.old table.old first.carry first.free.shown 0
-        scratch.old }
+    requires { StartDue words.now l tables.now asks.now free.old.shown answers.old table.old scratch.old }
     ensures answered { Answered (problem_of words.now) asks.now answers.old answers.new table.new }
     ensures table_len_unchanged { length table.new ≡ length table.old }
 {
+    let mut carry = empty_carry();
     let n = asks.len() / 2;
-    let mut on = first;
     // Each time round, the asks before k are answered, and the carry says what they settle.
     for k in 0..n {
-        let carry = on.carry;
-        let free = on.free;
-        let turn = AskTurn {
-            ask: k,
-            carry,
-            free,
-        };
-        let next = answer(words, l, tables, asks, turn, answers, table, scratch);
-        on = next;
+        let turn = AskTurn { ask: k, carry };
+        let told = reply(words, l, tables, asks, turn, free, table, scratch);
+        carry = put_turn(l, asks, turn, told, answers);
     }
 }
 
@@ -294,25 +204,6 @@ fn tables_of(
     dual::fill_tables(words, l, &priced, scratch)
 }
 
-// What a run has before its first ask: the table of its walks, and what the fixed prices show of the free plant.
-#[derive(Clone, Copy)]
-struct Prepared {
-    tables: [u32; TABLES],
-    free: Findings,
-}
-
-// That of a file, with an emptied memo.
-fn prepare(words: &[u32], l: Layout, scratch: &mut [u32]) -> Prepared
-    requires { Filed words.now l × (scratch.old ≡ replicate (length scratch.old) 0) }
-    ensures walks { Walking words.now l result.tables scratch.new }
-    ensures free { ShowsNone (problem_of words.now) result.free.shown }
-{
-    let first = tables::first(words, l);
-    let free = farkas::try_fixed(words, l, &first);
-    let tables = tables_of(words, l, &first, free, scratch);
-    Prepared { tables, free }
-}
-
 // Every ask of a run in turn, at prices that the file gives, with an emptied table (D63).
 fn answer_priced(
     words: &[u32],
@@ -327,14 +218,10 @@ fn answer_priced(
     ensures answered { Answered (problem_of words.now) asks.now answers.old answers.new table.new }
     ensures table_len_unchanged { length table.new ≡ length table.old }
 {
-    let prepared = prepare(words, l, scratch);
-    let tables = prepared.tables;
-    let free = prepared.free;
-    let first = Onward {
-        carry: empty_carry(),
-        free,
-    };
-    answer_each(words, l, &tables, asks, first, answers, table, scratch);
+    let first = tables::first(words, l);
+    let mut free = farkas::try_fixed(words, l, &first);
+    let tables = tables_of(words, l, &first, free, scratch);
+    answer_each(words, l, &tables, asks, &mut free, answers, table, scratch);
 }
 
 // Every ask of a run that was not turned away. Table and scratch are emptied first, whatever they held (D68).

@@ -39,7 +39,6 @@ use Rattle.state.specs.declared.Walked.{Walked}
 use Rattle.state.specs.declared.Walked.TheVariants.{Dead, Spent}
 use Rattle.state.specs.State.{dead_at, with_table, EndNoted, WalkStart}
 use Rattle.blame.specs.Free.{NoSchedule}
-use Rattle.farkas.specs.declared.Findings.{Findings}
 use Rattle.farkas.specs.Sums.{ShowsNone}
 use Rattle.search.specs.declared.Ask.{Ask}
 use Rattle.search.specs.declared.Reply.{Reply}
@@ -95,11 +94,6 @@ pub finished_shown : (ws : List ℕ) (l : Layout) (us w memo : List ℕ) (st : S
     → shown ≡ true → step ≡ dead_at st 0 → SearchDone (problem_of ws) w w st step shown
 finished_shown ws l us w memo st shown step d so is = record { finished = finished_none ws w st step (d.none.none so) is; none = d.none }
 
--- none is without
-pub all_start : (p : Problem) (st : State) (some : Bool) (step : Step) → some ≡ some_startless p → some ≡ false → some_startless p ≡ true
-    → step ≡ dead_at st 0
-all_start p st some step e none so = true_false (sym so ∙ (sym e ∙ none))
-
 -- ---- a walk that does
 
 module _ (ws : List ℕ) (l : Layout) (us w memo : List ℕ) (st : State) (d : WalkDue ws l us st w memo) where
@@ -143,10 +137,6 @@ module _ (ws : List ℕ) (l : Layout) (us w memo : List ℕ) (st : State) (d : W
           };
         }
 
--- what the root asks of an ask
-pub search_root : (ws : List ℕ) (l : Layout) (us w memo : List ℕ) (st : State) (shown : Bool) → SearchDue ws l us st shown w memo → RootDue ws l us st.limit.0
-search_root ws l us w memo st shown d = walk_root ws l us w memo st d.walk
-
 -- all units were placed in turn
 pub walk_placed : (p : Problem) (w w' : List ℕ) (c : ℕ) (st : State) (at : Visit) (step : Step) → AtRoot c st at → PlaceDone p w w' at.node at.state step
     → Finished p w w' st step
@@ -159,31 +149,7 @@ walk_placed p w w' c st at step root done = record { later = rw root.same at don
     }
     go (Spent m) h = h
 
--- ---- the runs of a best
-
-pub runs_asked : (p : Problem) (st : State) → (st.found ≡ true → Permits p (entry st.best)) → st.found ≡ true → Permits p (entry st.best)
-runs_asked p st h e = h e
-
-pub runs_none : (p : Problem) (st : State) (runs : List ℕ) → st.found ≡ false → st.found ≡ true → RunsOf p (entry st.best) runs
-runs_none p st runs e so = true_false (sym so ∙ e)
-
 -- ---- the ask
-
--- it begins with no schedule and its own ceiling
-pub ask_begins : (ws : List ℕ) (l : Layout) (us : List ℕ) (ask : Ask) (used : ℕ) (w memo : List ℕ) (st : State) (known : Findings)
-    → AskDue ws l us ask w used memo → WalkStart ask.ceiling ask.budget used st → known ≡ ask.free → SearchDue ws l us st known.shown w memo
-ask_begins ws l us ask used w memo st known d b is = record {
-  walk = record {
-    walking = d.walking;
-    fresh = record {
-      nothing = b.nothing;
-      tries = b.tries;
-      small = omega (arith, b.limit, d.ceiled);
-      held = subst (TableTrue (problem_of ws) w) (sym b.used) d.held;
-    };
-  };
-  none = rw is d.none;
-}
 
 module _ (p : Problem) (ceiling budget used : ℕ) (w w' : List ℕ) (st : State) (step : Step) (b : WalkStart ceiling budget used st)
     (ended-so : Finished p w w' st step) where
@@ -299,11 +265,11 @@ module _ (p : Problem) (ceiling budget used : ℕ) (w w' : List ℕ) (st : State
             (asked_spent m e d.1)
 
 -- what a reply is made from
-pub ask_searched : (ws : List ℕ) (l : Layout) (us : List ℕ) (ask : Ask) (used : ℕ) (w w' memo : List ℕ) (st : State) (step : Step) (shown : Bool)
-    → AskDue ws l us ask w used memo → WalkStart ask.ceiling ask.budget used st → SearchDone (problem_of ws) w w' st step shown
+pub ask_searched : (ws : List ℕ) (l : Layout) (us : List ℕ) (ask : Ask) (known : Bool) (used : ℕ) (w w' memo : List ℕ) (st : State) (step : Step) (shown : Bool)
+    → AskDue ws l us ask known w used memo → WalkStart ask.ceiling ask.budget used st → SearchDone (problem_of ws) w w' st step shown
     → (some_startless (problem_of ws) ≡ true → step ≡ dead_at st 0) → AskSearched ws l us ask w used w' step shown
 unfolding AskSearched
-ask_searched ws l us ask used w w' memo st step shown d b h idle = record { memo = memo; due = d; st = st; start = b; done = h; idle = idle }
+ask_searched ws l us ask known used w w' memo st step shown d b h idle = record { memo = memo; known = known; due = d; st = st; start = b; done = h; idle = idle }
 
 module _ (ws : List ℕ) (l : Layout) (us : List ℕ) (ask : Ask) (used : ℕ) (w w' : List ℕ) (step : Step) (shown : Bool)
     (h : AskSearched ws l us ask w used w' step shown) where
@@ -331,9 +297,9 @@ module _ (ws : List ℕ) (l : Layout) (us : List ℕ) (ask : Ask) (used : ℕ) (
       d.room d.held r.runs m.runs_are h.idle w'' r.state m.concluded)
 
   -- and what is known of the free plant is true
-  pub ask_shown : (known free : Findings) → shown ≡ known.shown → free ≡ known → ShowsNone (problem_of ws) free.shown
+  pub ask_shown : ShowsNone (problem_of ws) shown
   unfolding AskSearched
-  ask_shown known free e is = rw (is, sym e) h.done.none
+  ask_shown = h.done.none
 
 -- AN ASK WHOSE BUDGET IS AT LEAST THE NUMBER OF PLACES IS NEVER SPENT
 pub asked_unspent : (p : Problem) → Fair p → (ceiling budget : ℕ) (w : List ℕ) (used : ℕ) (w' : List ℕ) (r : Reply)

@@ -1,8 +1,8 @@
 -- The walks of an ask after its probes at gaps: a plan, none, the probe at the ceiling, and the last walk.
 -- Assumes nothing.
 use Prim.Native.Nat.{ℕ}
-use mathlib.Core.Path.{◌≡◌, refl, sym, ◌∙◌, ap, ap₂, subst}
-use mathlib.Core.Bool.{Bool, true, false}
+use mathlib.Core.Path.{◌≡◌, refl, sym, subst}
+use mathlib.Core.Bool.{Bool, true}
 use mathlib.Core.List.{List}
 use native.Mathlib.Omega.{arith}
 use Rattle.sums.proofs.LogicLaws.{true_false}
@@ -10,7 +10,6 @@ use Rattle.model.specs.declared.Layout.{Layout}
 use Rattle.model.specs.Problem.{Problem}
 use Rattle.model.specs.Words.{problem_of}
 use Rattle.model.proofs.FileLaws.{fair}
-use Rattle.instance.specs.declared.Euro.{Euro}
 use Rattle.tables.specs.Tables.{price_in}
 use Rattle.relaxation.specs.Relaxed.{MemoTrue}
 use Rattle.state.specs.declared.State.{State}
@@ -23,86 +22,54 @@ use Rattle.descent.specs.declared.Descent.{Descent}
 use Rattle.descent.specs.declared.Ending.TheVariants.{Earliest}
 use Rattle.descent.specs.Descent.{DescentDue, Descended}
 use Rattle.descent.proofs.DescentLaws.{descended_best}
-use Rattle.search.specs.declared.gaps.Outcome.{Outcome}
 use Rattle.prices.specs.Ranges.{PricedFile}
-use Rattle.farkas.specs.declared.Findings.{Findings}
 use Rattle.farkas.specs.Sums.{ShowsNone}
+use Rattle.search.specs.declared.gaps.Outcome.{Outcome}
+use Rattle.search.specs.declared.gaps.Outcome.TheVariants.{Plan, NoPlan}
 use Rattle.search.specs.declared.gaps.Probes.{Probes}
-use Rattle.search.specs.Walks.{SearchDone, OutcomeOf, Going, GoingDue, PlanDue, CeilingDue, Settles, Concludes, AfterDue, VainDue, GapsDone}
+use Rattle.search.specs.declared.gaps.Probes.TheVariants.{AtPlan, AtCeiling}
+use Rattle.search.specs.Walks.{OutcomeOf, Going, GoingDue, PlanDue, CeilingDue, Settles, VainDue, PlanFound, GapsVain, GapsDone}
 
--- where they have come
-module _ (ws : List ℕ) (l : Layout) (us w₀ : List ℕ) (st : State) (w memo : List ℕ) (r : Probes) (h : GapsDone ws l us w₀ st w memo r) where
-  pub gapped_after : AfterDue ws l us st r w memo
-  unfolding GapsDone AfterDue
-  gapped_after = h.after
+-- where the probes at gaps have come
+module _ (ws : List ℕ) (l : Layout) (us w₀ : List ℕ) (st : State) (w memo : List ℕ) (shown : Bool) (r : Probes)
+    (h : GapsDone ws l us w₀ st w memo shown r) (s : State) where
+  -- to a plan
+  module _ (e : r ≡ AtPlan s) where
+    found : PlanFound ws l us st w₀ st.used w memo shown s
+    found = subst (GapsDone ws l us w₀ st w memo shown) e h
 
-  pub gapped_ends : (w' : List ℕ) (step : Step) (shown : Bool) → Concludes (problem_of ws) w w' st r.state step shown → SearchDone (problem_of ws) w₀ w' st step shown
-  unfolding GapsDone
-  gapped_ends w' step shown done = record { finished = done.settles.each w₀ h.carried; none = done.none }
+    pub plan_due : PlanDue ws l us st s w memo
+    unfolding PlanDue
+    plan_due = found.plan
 
-module _ (ws : List ℕ) (l : Layout) (us : List ℕ) (st : State) (r : Probes) (w memo : List ℕ) (h : AfterDue ws l us st r w memo) where
-  -- a plan
-  pub after_plan : (s : State) → s ≡ r.state → r.plan ≡ true → PlanDue ws l us st s w memo
-  unfolding AfterDue PlanDue
-  after_plan s e so = rw e (record { going = h.going; planned = h.planned so })
+  -- to the ask's own ceiling
+  module _ (e : r ≡ AtCeiling s) where
+    vain : GapsVain ws l us w₀ st w memo shown s
+    vain = subst (GapsDone ws l us w₀ st w memo shown) e h
 
-  pub after_told : (s : State) (free : Findings) (w' : List ℕ) (step : Step) → s ≡ r.state → free ≡ r.free → Settles (problem_of ws) w w' st s step
-      → Concludes (problem_of ws) w w' st r.state step free.shown
-  unfolding AfterDue
-  after_told s free w' step e f done = record {
-    settles = subst (λ (x : State). Settles (problem_of ws) w w' st x step) e done;
-    none = rw f h.none;
-  }
+    pub vain_due : VainDue ws l us st s shown w memo
+    unfolding VainDue
+    vain_due = vain.vain
 
-  -- in vain
-  pub after_vain : r.plan ≡ false → VainDue ws l us st r w memo
-  unfolding AfterDue VainDue
-  after_vain so = record { ceiling = record { going = h.going; own = h.vain so }; none = h.none }
-
-module _ (ws : List ℕ) (l : Layout) (us : List ℕ) (st : State) (r : Probes) (w memo : List ℕ) (h : VainDue ws l us st r w memo) where
+-- there
+module _ (ws : List ℕ) (l : Layout) (us : List ℕ) (st s : State) (known : Bool) (w memo : List ℕ) (h : VainDue ws l us st s known w memo) where
   -- the free plant is asked
   pub vain_priced : PricedFile ws l us
   unfolding VainDue
   vain_priced = record { filed = h.ceiling.going.walking.filed; priced = h.ceiling.going.walking.dual.priced }
 
-  pub vain_known : (known : Findings) → known ≡ r.free → ShowsNone (problem_of ws) known.shown
+  pub vain_known : ShowsNone (problem_of ws) known
   unfolding VainDue
-  vain_known known e = rw e h.none
+  vain_known = h.none
 
   pub vain_recalls : MemoTrue (problem_of ws) (price_in us) memo
   unfolding VainDue
   vain_recalls = h.ceiling.going.walking.recalls
 
-  module _ (s : State) (e : s ≡ r.state) where
-    -- it shows that there is none
-    pub vain_none : (limit : Euro) (step : Step) (shown : Bool) → limit ≡ st.limit → step ≡ dead_at (renewed_at s limit st.budget) 0
-        → ShowsNone (problem_of ws) shown → shown ≡ true → Concludes (problem_of ws) w w st r.state step shown
-    unfolding VainDue
-    vain_none limit step shown own is none so = record {
-      settles = subst (Settles (problem_of ws) w w st r.state) (sym (is ∙ ap₂ (λ (x : State) (c : Euro). dead_at (renewed_at x c st.budget) 0) e own)) (record {
-        each = λ w₀ c. record {
-          later = record {
-            falls = omega arith;
-            kept = λ ceiling i. record { under = i.under; none = λ _. i.none h.ceiling.going.nothing; plan = λ z. true_false (sym z) };
-            carried = c;
-          };
-          closes = record { costs = λ q sound. absurd ((none.none so).never q sound) };
-        };
-      });
-      none = none;
-    }
-
-    -- it does not: the probe at the ceiling
-    pub vain_ceiling : CeilingDue ws l us st s w memo
-    unfolding VainDue CeilingDue
-    vain_ceiling = rw e h.ceiling
-
-    pub vain_told : (w' : List ℕ) (step : Step) (shown : Bool) → Settles (problem_of ws) w w' st s step → ShowsNone (problem_of ws) shown
-        → Concludes (problem_of ws) w w' st r.state step shown
-    vain_told w' step shown done none = record {
-      settles = subst (λ (x : State). Settles (problem_of ws) w w' st x step) e done;
-      none = none;
-    }
+  -- it does not show that there is none: the probe at the ceiling
+  pub vain_ceiling : CeilingDue ws l us st s w memo
+  unfolding VainDue CeilingDue
+  vain_ceiling = h.ceiling
 
 -- ---- the last walk
 
@@ -215,38 +182,30 @@ module _ (ws : List ℕ) (l : Layout) (us : List ℕ) (st s : State) (w memo : L
 
     module _ (o : Outcome) (t : OutcomeOf step st.limit.0 o) where
       -- a plan
-      pub ceiling_plan : (memo₁ : List ℕ) → MemoTrue (problem_of ws) (price_in us) memo₁ → o.plan ≡ true → PlanDue ws l us st step.state w₁ memo₁
+      pub ceiling_plan : (memo₁ : List ℕ) → MemoTrue (problem_of ws) (price_in us) memo₁ → o ≡ Plan → PlanDue ws l us st step.state w₁ memo₁
       unfolding CeilingDue PlanDue
-      ceiling_plan memo₁ recalls so = record {
-        going = later memo₁ recalls;
-        planned = record {
-          below = t.less so;
-          least = done.settled (t.dead so);
-          plan = done.plan (omega (arith, t.less so, h.own));
-        };
-      }
+      ceiling_plan memo₁ recalls e =
+          let so : OutcomeOf step st.limit.0 Plan = subst (OutcomeOf step st.limit.0) e t in
+          record {
+            going = later memo₁ recalls;
+            planned = record { below = so.1; least = done.settled so.0; plan = done.plan (omega (arith, so.1, h.own)) };
+          }
 
       -- none
-      pub ceiling_none : (r : Step) → o.none ≡ true → r ≡ dead_at (renewed_at step.state st.limit st.budget) 0
+      pub ceiling_none : (r : Step) → o ≡ NoPlan → r ≡ dead_at (renewed_at step.state st.limit st.budget) 0
           → Settles (problem_of ws) w w₁ st s r
       unfolding CeilingDue
-      ceiling_none r so is = subst (Settles (problem_of ws) w w₁ st s) (sym is) (record {
+      ceiling_none r e is = subst (Settles (problem_of ws) w w₁ st s) (sym is) (record {
         each = λ w₀ c. record {
           later = record {
             falls = omega arith;
             kept = λ ceiling i. record { under = i.under; none = λ _. i.none h.going.nothing; plan = λ z. true_false (sym z) };
             carried = carried_next (problem_of ws) w₀ w w₁ st.used s.used step.state.used c done.goes.carried;
           };
-          closes = record { costs = λ x sound. omega (arith, (done.settled (t.ended so)).costs x sound, t.stays so) };
+          closes = record {
+            costs = λ x sound.
+                let so : OutcomeOf step st.limit.0 NoPlan = subst (OutcomeOf step st.limit.0) e t in
+                omega (arith, (done.settled so.0).costs x sound, so.1);
+          };
         };
       })
-
--- ---- what is told
-
-pub tell_plan_of : (s q : State) (cost : Euro) (step : Step) → q ≡ improved_by s s.best cost → step ≡ dead_at q 0
-    → step ≡ dead_at (improved_by s s.best cost) 0
-tell_plan_of s q cost step e is = is ∙ ap (λ (x : State). dead_at x 0) e
-
-pub tell_none_of : (s q : State) (limit : Euro) (budget : ℕ) (step : Step) → q ≡ renewed_at s limit budget → step ≡ dead_at q 0
-    → step ≡ dead_at (renewed_at s limit budget) 0
-tell_none_of s q limit budget step e is = is ∙ ap (λ (x : State). dead_at x 0) e

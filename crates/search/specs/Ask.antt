@@ -54,17 +54,18 @@ pub record ReplyOf (p : Problem) (step : Step) (w w' : List ℕ) (r : Reply) : T
   pub walked_is : r.walked ≡ step.walked
 
 -- what an ask asks: a ceiling, what is known of the free plant, and a table whose first words hold true nogoods
-pub record AskDue (ws : List ℕ) (l : Layout) (us : List ℕ) (ask : Ask) (w : List ℕ) (used : ℕ) (memo : List ℕ) : Type 0 where
+pub record AskDue (ws : List ℕ) (l : Layout) (us : List ℕ) (ask : Ask) (shown : Bool) (w : List ℕ) (used : ℕ) (memo : List ℕ) : Type 0 where
   pub walking : Walking ws l us memo
   pub ceiled : ask.ceiling < MOST_LIMIT
-  pub none : ShowsNone (problem_of ws) ask.free.shown
+  pub none : ShowsNone (problem_of ws) shown
   pub room : used < length w
   pub held : TableTrue (problem_of ws) w used
 
 -- what an ask's reply is made from: what it asked, the state st in which its walks began, and how they ended
 pub record Searching (ws : List ℕ) (l : Layout) (us : List ℕ) (ask : Ask) (w : List ℕ) (used : ℕ) (w' : List ℕ) (step : Step) (shown : Bool) : Type 0 where
   pub memo : List ℕ
-  pub due : AskDue ws l us ask w used memo
+  pub known : Bool
+  pub due : AskDue ws l us ask known w used memo
   pub st : State
   pub start : WalkStart ask.ceiling ask.budget used st
   pub done : SearchDone (problem_of ws) w w' st step shown

@@ -1,7 +1,7 @@
 -- The walks of an ask: probes at gaps and at the ask's own ceiling, the descent from a plan of theirs, and the last walk. An ask began in a state st;
 -- its walks have come to a state s, with the table w.
 -- Assumes nothing.
-use Rattle.std.specs.Prelude.{ℕ, ◌+◌, ◌≤◌, ◌<◌, ◌≡◌, Bool, true, false, List}
+use Rattle.std.specs.Prelude.{ℕ, ◌+◌, ◌≤◌, ◌<◌, ◌≡◌, Bool, false, List}
 use Rattle.sums.specs.Table.{entry}
 use Rattle.model.specs.declared.Layout.{Layout}
 use Rattle.model.specs.Problem.{Problem}
@@ -13,13 +13,14 @@ use Rattle.prices.specs.Ranges.{PricedFile}
 use Rattle.farkas.specs.Sums.{ShowsNone}
 use Rattle.walk.specs.Walk.{TableTrue, Carried, Walking, AllSettled, WalkDue, Finished, Unspent}
 use Rattle.probe.specs.Probe.{PlanAt}
-use Rattle.search.specs.declared.gaps.Outcome.{Outcome}
-use Rattle.instance.specs.declared.Euro.{Euro}
-use Rattle.farkas.specs.declared.Findings.{Findings}
 use Rattle.state.specs.State.{renewed_at}
-use Rattle.search.specs.declared.gaps.GapEnd.{GapEnd}
+use Rattle.search.specs.declared.gaps.Outcome.{Outcome}
+use Rattle.search.specs.declared.gaps.Outcome.TheVariants.{Plan, NoPlan, Spent}
 use Rattle.search.specs.declared.gaps.GapTurn.{GapTurn}
+use Rattle.search.specs.declared.gaps.GapEnd.{GapEnd}
+use Rattle.search.specs.declared.gaps.GapEnd.TheVariants.{Found, Vain}
 use Rattle.search.specs.declared.gaps.Probes.{Probes}
+use Rattle.search.specs.declared.gaps.Probes.TheVariants.{AtPlan, AtCeiling}
 
 -- what the walks of an ask ask, and what is known of the free plant
 pub record SearchDue (ws : List ℕ) (l : Layout) (us : List ℕ) (st : State) (shown : Bool) (w memo : List ℕ) : Type 0 where
@@ -31,12 +32,11 @@ pub record SearchDone (p : Problem) (w w' : List ℕ) (st : State) (step : Step)
   pub finished : Finished p w w' st step
   pub none : ShowsNone p shown
 
--- how a probe under a limit ended
-pub record OutcomeOf (step : Step) (limit : ℕ) (r : Outcome) : Type 0 where
-  pub less : r.plan ≡ true → step.state.limit.0 < limit
-  pub dead : r.plan ≡ true → Unspent step.walked
-  pub stays : r.none ≡ true → limit ≤ step.state.limit.0
-  pub ended : r.none ≡ true → Unspent step.walked
+-- how a probe under a limit ended: unspent and with a plan, unspent and without, or spent
+abbrev pub OutcomeOf : Step → (limit : ℕ) → Outcome → Type 0
+OutcomeOf step limit Plan = Unspent step.walked × (step.state.limit.0 < limit)
+OutcomeOf step limit NoPlan = Unspent step.walked × (limit ≤ step.state.limit.0)
+OutcomeOf step limit Spent = ¬ Unspent step.walked
 
 -- what a further walk asks
 pub record Going (ws : List ℕ) (l : Layout) (us : List ℕ) (st s : State) (w memo : List ℕ) : Type 0 where
@@ -79,109 +79,76 @@ pub record Concludes (p : Problem) (w w' : List ℕ) (st s : State) (step : Step
   pub settles : Settles p w w' st s step
   pub none : ShowsNone p shown
 
--- a probe at a gap has ended: what the table held stands there, and a plan is of the least cost, below the probe's limit
-pub record GapProbing (ws : List ℕ) (l : Layout) (us w : List ℕ) (probe : State) (w' memo' : List ℕ) (r : GapEnd) : Type 0 where
-  pub walking : Walking ws l us memo'
-  pub carried : Carried (problem_of ws) w probe.used w' r.state.used
-  pub less : r.plan ≡ true → r.state.limit.0 < probe.limit.0
-  pub least : r.plan ≡ true → AllSettled (problem_of ws) r.state.limit.0
-  pub plan : r.plan ≡ true → PlanAt (problem_of ws) (entry r.state.best) r.state.limit.0
+-- where the probes at gaps were all in vain: what the probe at the ceiling asks, and what is known of the free plant is true
+pub record InVain (ws : List ℕ) (l : Layout) (us : List ℕ) (st s : State) (shown : Bool) (w memo : List ℕ) : Type 0 where
+  pub ceiling : CeilingGoing ws l us st s w memo
+  pub none : ShowsNone (problem_of ws) shown
 
-unfoldable pub GapProbed : (ws : List ℕ) → Layout → (us w : List ℕ) → State → (w' memo' : List ℕ) → GapEnd → Type 0
-GapProbed ws l us w probe w' memo' r = GapProbing ws l us w probe w' memo' r
+unfoldable pub VainDue : (ws : List ℕ) → Layout → (us : List ℕ) → (st s : State) → Bool → (w memo : List ℕ) → Type 0
+VainDue ws l us st s shown w memo = InVain ws l us st s shown w memo
+
+-- ---- probes at gaps
 
 -- before the first probe at a gap
-pub record FirstTurn (st : State) (free : Findings) (r : GapTurn) : Type 0 where
+pub record FirstTurn (st : State) (r : GapTurn) : Type 0 where
   pub state_is : r.state ≡ st
   pub some : 1 ≤ r.gap.0
   pub fits : r.root.0 + r.room.0 ≤ st.limit.0
-  pub plan_is : r.plan ≡ false
-  pub free_is : r.free ≡ free
-
--- after one that found a plan
-abbrev pub plan_turn : GapTurn → State → GapTurn
-plan_turn at q = record { state = q; root = at.root; room = at.room; gap = at.room; left = at.left; plan = true; free = at.free }
-
--- after one in vain
-abbrev pub vain_turn : GapTurn → State → Euro → ℕ → Findings → GapTurn
-vain_turn at q gap left free = record { state = q; root = at.root; room = at.room; gap = gap; left = left; plan = false; free = free }
 
 -- the probe at the next gap, before it begins
 abbrev pub probe_of : GapTurn → State
 probe_of at = renewed_at at.state (record { 0 = at.root.0 + at.gap.0 + 1 }) at.left
 
--- what the turn after a probe asks
-pub record AfterProbe (ws : List ℕ) (l : Layout) (us : List ℕ) (at : GapTurn) : Type 0 where
+-- what the turn after a probe in vain asks
+pub record AfterVain (ws : List ℕ) (l : Layout) (us : List ℕ) (at : GapTurn) (shown : Bool) : Type 0 where
   pub file : PricedFile ws l us
-  pub none : ShowsNone (problem_of ws) at.free.shown
+  pub none : ShowsNone (problem_of ws) shown
   pub some : 1 ≤ at.gap.0
   pub more : at.gap.0 < at.room.0
   pub few : at.room.0 ≤ MOST_LIMIT
 
--- the turn after one in vain
-pub record VainOn (p : Problem) (at : GapTurn) (end : GapEnd) (r : GapTurn) : Type 0 where
-  pub gap : Euro
-  pub left : ℕ
-  pub free : Findings
-  pub is : r ≡ vain_turn at end.state gap left free
-  pub rises : at.gap.0 < gap.0
-  pub none : ShowsNone p free.shown
-
--- the turn after a probe
-pub record TurnOn (p : Problem) (at : GapTurn) (end : GapEnd) (r : GapTurn) : Type 0 where
-  pub found : end.plan ≡ true → r ≡ plan_turn at end.state
-  pub vain : end.plan ≡ false → VainOn p at end r
+-- that turn, where the probe has come to a state s: the same bound and room, and a wider gap
+pub record VainOn (p : Problem) (at : GapTurn) (s : State) (shown : Bool) (r : GapTurn) : Type 0 where
+  pub state_is : r.state ≡ s
+  pub root_is : r.root ≡ at.root
+  pub room_is : r.room ≡ at.room
+  pub rises : at.gap.0 < r.gap.0
+  pub none : ShowsNone p shown
 
 -- where the probes at gaps stand, in an ask that began in a state st
-pub record GapGoing (ws : List ℕ) (l : Layout) (us : List ℕ) (st : State) (at : GapTurn) (w memo : List ℕ) : Type 0 where
+pub record GapGoing (ws : List ℕ) (l : Layout) (us : List ℕ) (st : State) (at : GapTurn) (shown : Bool) (w memo : List ℕ) : Type 0 where
   pub going : Going ws l us st at.state w memo
   pub some : 1 ≤ at.gap.0
   pub fits : at.root.0 + at.room.0 ≤ st.limit.0
-  pub none : ShowsNone (problem_of ws) at.free.shown
-  pub planned : at.plan ≡ true → Planned (problem_of ws) st at.state
+  pub none : ShowsNone (problem_of ws) shown
 
-unfoldable pub GapAt : (ws : List ℕ) → Layout → (us : List ℕ) → State → GapTurn → (w memo : List ℕ) → Type 0
-GapAt ws l us st at w memo = GapGoing ws l us st at w memo
+unfoldable pub GapAt : (ws : List ℕ) → Layout → (us : List ℕ) → State → GapTurn → Bool → (w memo : List ℕ) → Type 0
+GapAt ws l us st at shown w memo = GapGoing ws l us st at shown w memo
 
--- and after one more
-pub record GapStep (ws : List ℕ) (l : Layout) (us : List ℕ) (st : State) (w : List ℕ) (at : GapTurn) (w' memo' : List ℕ) (r : GapTurn) : Type 0 where
-  pub next : GapGoing ws l us st r w' memo'
+-- a plan was found, in a state s; what the table w held in so many words stands there
+pub record PlanFound (ws : List ℕ) (l : Layout) (us : List ℕ) (st : State) (w : List ℕ) (used : ℕ) (w' memo' : List ℕ) (shown' : Bool) (s : State) : Type 0 where
+  pub plan : PlanGoing ws l us st s w' memo'
+  pub carried : Carried (problem_of ws) w used w' s.used
+  pub none : ShowsNone (problem_of ws) shown'
+
+-- one probe more was in vain
+pub record GapStep (ws : List ℕ) (l : Layout) (us : List ℕ) (st : State) (w : List ℕ) (at : GapTurn) (w' memo' : List ℕ) (shown' : Bool) (r : GapTurn) : Type 0 where
+  pub next : GapGoing ws l us st r shown' w' memo'
   pub carried : Carried (problem_of ws) w at.state.used w' r.state.used
   pub room_is : r.room.0 ≡ at.room.0
   pub rises : at.gap.0 < r.gap.0
 
-unfoldable pub GapNext : (ws : List ℕ) → Layout → (us : List ℕ) → State → (w : List ℕ) → GapTurn → (w' memo' : List ℕ) → GapTurn → Type 0
-GapNext ws l us st w at w' memo' r = GapStep ws l us st w at w' memo' r
+-- one probe more
+abbrev pub GapNext : (ws : List ℕ) → Layout → (us : List ℕ) → State → (w : List ℕ) → GapTurn → (w' memo' : List ℕ) → Bool → GapEnd → Type 0
+GapNext ws l us st w at w' memo' shown' (Found s) = PlanFound ws l us st w at.state.used w' memo' shown' s
+GapNext ws l us st w at w' memo' shown' (Vain r) = GapStep ws l us st w at w' memo' shown' r
 
--- where they have come after the last
-pub record GapsEnd (st : State) (at : GapTurn) (r : Probes) : Type 0 where
-  pub plan_is : r.plan ≡ at.plan
-  pub free_is : r.free ≡ at.free
-  pub found : at.plan ≡ true → r.state ≡ at.state
-  pub vain : at.plan ≡ false → r.state ≡ renewed_at at.state st.limit at.left
+-- all were in vain: they have come to the ask's own limit, in a state s
+pub record GapsVain (ws : List ℕ) (l : Layout) (us w₀ : List ℕ) (st : State) (w memo : List ℕ) (shown : Bool) (s : State) : Type 0 where
+  pub vain : InVain ws l us st s shown w memo
+  pub carried : Carried (problem_of ws) w₀ st.used w s.used
 
--- where the probes at gaps have come: to a plan, or in vain to the ask's own limit
-pub record After (ws : List ℕ) (l : Layout) (us : List ℕ) (st : State) (r : Probes) (w memo : List ℕ) : Type 0 where
-  pub going : Going ws l us st r.state w memo
-  pub planned : r.plan ≡ true → Planned (problem_of ws) st r.state
-  pub vain : r.plan ≡ false → r.state.limit.0 ≡ st.limit.0
-  pub none : ShowsNone (problem_of ws) r.free.shown
-
-unfoldable pub AfterDue : (ws : List ℕ) → Layout → (us : List ℕ) → State → Probes → (w memo : List ℕ) → Type 0
-AfterDue ws l us st r w memo = After ws l us st r w memo
-
--- in vain
-pub record InVain (ws : List ℕ) (l : Layout) (us : List ℕ) (st : State) (r : Probes) (w memo : List ℕ) : Type 0 where
-  pub ceiling : CeilingGoing ws l us st r.state w memo
-  pub none : ShowsNone (problem_of ws) r.free.shown
-
-unfoldable pub VainDue : (ws : List ℕ) → Layout → (us : List ℕ) → State → Probes → (w memo : List ℕ) → Type 0
-VainDue ws l us st r w memo = InVain ws l us st r w memo
-
--- the probes at gaps have come there from the table w₀
-pub record Gapped (ws : List ℕ) (l : Layout) (us w₀ : List ℕ) (st : State) (w memo : List ℕ) (r : Probes) : Type 0 where
-  pub after : After ws l us st r w memo
-  pub carried : Carried (problem_of ws) w₀ st.used w r.state.used
-
-unfoldable pub GapsDone : (ws : List ℕ) → Layout → (us w₀ : List ℕ) → State → (w memo : List ℕ) → Probes → Type 0
-GapsDone ws l us w₀ st w memo r = Gapped ws l us w₀ st w memo r
+-- where the probes at gaps have come, from the table w₀
+abbrev pub GapsDone : (ws : List ℕ) → Layout → (us w₀ : List ℕ) → State → (w memo : List ℕ) → Bool → Probes → Type 0
+GapsDone ws l us w₀ st w memo shown (AtPlan s) = PlanFound ws l us st w₀ st.used w memo shown s
+GapsDone ws l us w₀ st w memo shown (AtCeiling s) = GapsVain ws l us w₀ st w memo shown s

@@ -19,19 +19,17 @@ ghost use Rattle.search.specs.Ask.{ReplyOfDue, ReplyOf, AskDue, AskSearched, Ask
 
 use farkas::Findings;
 use model::Layout;
-use probes::Searched;
-use state::{State, Walked};
+use state::{State, Step, Walked};
 use tables::TABLES;
 
 mod gaps;
 mod probes;
 
-// An ask: its ceiling, its budget, and what is known of the free plant.
+// An ask: its ceiling and its budget.
 #[derive(Clone, Copy)]
 pub struct Ask {
     pub ceiling: u32,
     pub budget: u32,
-    pub free: Findings,
 }
 
 // How an ask ended: its last state, with the runs of the best schedule.
@@ -42,39 +40,26 @@ pub struct Reply {
     pub runs: [u32; 52],
 }
 
-// An ask's reply, and what is known of the free plant then.
-#[derive(Clone, Copy)]
-pub struct Solved {
-    pub reply: Reply,
-    pub free: Findings,
-}
-
 // The walks of an ask; none where some unit has no permitted start, and where it is known that there is no schedule.
 fn search_all(
     words: &[u32],
     l: Layout,
     tables: &[u32; TABLES],
     st: State,
-    free: Findings,
+    free: &mut Findings,
     table: &mut [u32],
     memo: &mut [u32],
-) -> Searched
-    requires { SearchDue words.now l tables.now st free.shown table.old memo.old }
-    ensures answer { SearchDone (problem_of words.now) table.old table.new st result.step result.free.shown }
-    ensures startless { some_startless (problem_of words.now) ≡ true → result.step ≡ dead_at st 0 }
+) -> Step
+    requires { SearchDue words.now l tables.now st free.old.shown table.old memo.old }
+    ensures answer { SearchDone (problem_of words.now) table.old table.new st result free.new.shown }
+    ensures startless { some_startless (problem_of words.now) ≡ true → result ≡ dead_at st 0 }
     ensures recalls { MemoTrue (problem_of words.now) (price_in tables.now) memo.new }
 {
     if bound::has_no_start(words, l) {
-        return Searched {
-            step: state::dead_end(st, 0),
-            free,
-        };
+        return state::dead_end(st, 0);
     }
     if free.shown {
-        return Searched {
-            step: state::dead_end(st, 0),
-            free,
-        };
+        return state::dead_end(st, 0);
     }
     probes::solve_by_probes(words, l, tables, st, free, table, memo)
 }
@@ -85,17 +70,17 @@ fn search_ask(
     l: Layout,
     tables: &[u32; TABLES],
     ask: Ask,
+    free: &mut Findings,
     table: &mut [u32],
     used: usize,
     memo: &mut [u32],
-) -> Searched
-    requires { AskDue words.now l tables.now ask table.old used memo.old }
-    ensures answer { AskSearched words.now l tables.now ask table.old used table.new result.step result.free.shown }
+) -> Step
+    requires { AskDue words.now l tables.now ask free.old.shown table.old used memo.old }
+    ensures answer { AskSearched words.now l tables.now ask table.old used table.new result free.new.shown }
     ensures recalls { MemoTrue (problem_of words.now) (price_in tables.now) memo.new }
 {
     let st = state::fresh(ask.ceiling, ask.budget, &table[..], used);
-    let known = ask.free;
-    search_all(words, l, tables, st, known, table, memo)
+    search_all(words, l, tables, st, free, table, memo)
 }
 
 // The runs of the best schedule, 0 where there is none.
@@ -103,50 +88,41 @@ fn best_runs(words: &[u32], l: Layout, st: State) -> [u32; 52]
     requires { Filed words.now l × (st.found ≡ true → Permits (problem_of words.now) (entry st.best)) }
     ensures { st.found ≡ true → RunsOf (problem_of words.now) (entry st.best) result }
 {
-    let best = st.best;
     if st.found {
-        return bound::runs(words, l, best);
+        return bound::runs(words, l, st.best);
     }
     [0; 52]
 }
 
 // The reply of an ask from how its search ended: the runs of the best schedule, and the conclusion in the table.
-fn make_reply(words: &[u32], l: Layout, searched: Searched, table: &mut [u32]) -> Solved
-    requires { ReplyOfDue words.now l searched.step table.old }
-    ensures answer { ReplyOf (problem_of words.now) searched.step table.old table.new result.reply }
-    ensures free { result.free ≡ searched.free }
+fn make_reply(words: &[u32], l: Layout, step: Step, table: &mut [u32]) -> Reply
+    requires { ReplyOfDue words.now l step table.old }
+    ensures { ReplyOf (problem_of words.now) step table.old table.new result }
 {
-    let step = searched.step;
-    let free = searched.free;
-    let s = step.state;
-    let w = step.walked;
-    let runs = best_runs(words, l, s);
-    Solved {
-        reply: Reply {
-            state: state::note_end(table, s, w),
-            walked: w,
-            runs,
-        },
-        free,
+    Reply {
+        runs: best_runs(words, l, step.state),
+        state: state::note_end(table, step.state, step.walked),
+        walked: step.walked,
     }
 }
 
 // One ask: the earliest of the cheapest schedules at or below the ceiling, within a budget of tries. The first `used` words of the table hold true
-// nogoods, at entry and at exit, where the state says how many are in use.
+// nogoods, at entry and at exit, where the state says how many are in use. What is known of the free plant is true, at entry and at exit.
 pub fn solve(
     words: &[u32],
     l: Layout,
     tables: &[u32; TABLES],
     ask: Ask,
+    free: &mut Findings,
     table: &mut [u32],
     used: usize,
     memo: &mut [u32],
-) -> Solved
-    requires { AskDue words.now l tables.now ask table.old used memo.old }
-    ensures answer { Asked (problem_of words.now) ask.ceiling ask.budget table.old used table.new result.reply }
-    ensures free { ShowsNone (problem_of words.now) result.free.shown }
+) -> Reply
+    requires { AskDue words.now l tables.now ask free.old.shown table.old used memo.old }
+    ensures answer { Asked (problem_of words.now) ask.ceiling ask.budget table.old used table.new result }
+    ensures free { ShowsNone (problem_of words.now) free.new.shown }
     ensures recalls { MemoTrue (problem_of words.now) (price_in tables.now) memo.new }
 {
-    let searched = search_ask(words, l, tables, ask, table, used, memo);
-    make_reply(words, l, searched, table)
+    let step = search_ask(words, l, tables, ask, free, table, used, memo);
+    make_reply(words, l, step, table)
 }

@@ -5,10 +5,10 @@ ghost use Rattle.tables.specs.Tables.{price_in};
 ghost use Rattle.relaxation.specs.Relaxed.{MemoTrue};
 ghost use Rattle.state.specs.State.{renewed_at, improved_by, dead_at};
 ghost use Rattle.walk.specs.Walk.{AtRoot, WalkDue, Finished};
-ghost use Rattle.search.specs.Walks.{SearchDue, SearchDone, GoingDue, PlanDue, CeilingDue, VainDue, AfterDue, Settles, Concludes};
+ghost use Rattle.search.specs.Walks.{SearchDue, SearchDone, GoingDue, PlanDue, CeilingDue, VainDue, Settles, Concludes};
 
 use crate::gaps;
-use crate::gaps::Probes;
+use crate::gaps::{Outcome, Probes};
 use descent::Ending;
 use dual::Node;
 use farkas::Findings;
@@ -77,8 +77,7 @@ fn last_walk(
     ensures answer { Settles (problem_of words.now) table.old table.new st s result }
     ensures recalls { MemoTrue (problem_of words.now) (price_in tables.now) memo.new }
 {
-    let limit = st.limit;
-    let last = state::renewed(s, limit, st.budget);
+    let last = state::renewed(s, st.limit, st.budget);
     walk(words, l, tables, last, table, memo)
 }
 
@@ -86,8 +85,7 @@ fn last_walk(
 fn tell_plan(s: State, cost: Euro) -> Step
     ensures { result ≡ dead_at (improved_by s s.best cost) 0 }
 {
-    let best = s.best;
-    state::dead_end(state::improved(s, best, cost), 0)
+    state::dead_end(state::improved(s, s.best, cost), 0)
 }
 
 // No plan under the limit.
@@ -134,24 +132,12 @@ fn solve_at_ceiling(
     ensures answer { Settles (problem_of words.now) table.old table.new st s result }
     ensures recalls { MemoTrue (problem_of words.now) (price_in tables.now) memo.new }
 {
-    let limit = st.limit;
     let step = probe::from_root(words, l, tables, s, table, memo);
-    let ended = gaps::outcome_of(step, limit);
-    let q = step.state;
-    if ended.plan {
-        return solve_by_descent(words, l, tables, st, q, table, memo);
+    match gaps::outcome_of(step, st.limit) {
+        Outcome::Plan => solve_by_descent(words, l, tables, st, step.state, table, memo),
+        Outcome::NoPlan => tell_none(step.state, st.limit, st.budget),
+        Outcome::Spent => last_walk(words, l, tables, st, step.state, table, memo),
     }
-    if ended.none {
-        return tell_none(q, limit, st.budget);
-    }
-    last_walk(words, l, tables, st, q, table, memo)
-}
-
-// How the walks of an ask ended, and what is known of the free plant then.
-#[derive(Clone, Copy)]
-pub struct Searched {
-    pub step: Step,
-    pub free: Findings,
 }
 
 // Where the probes at gaps were in vain: none where the free plant shows it, else one probe at the ask's own ceiling.
@@ -160,49 +146,20 @@ fn solve_in_vain(
     l: Layout,
     tables: &[u32; TABLES],
     st: State,
-    probes: Probes,
+    s: State,
+    free: &mut Findings,
     table: &mut [u32],
     memo: &mut [u32],
-) -> Searched
-    requires { VainDue words.now l tables.now st probes table.old memo.old }
-    ensures answer { Concludes (problem_of words.now) table.old table.new st probes.state result.step result.free.shown }
+) -> Step
+    requires { VainDue words.now l tables.now st s free.old.shown table.old memo.old }
+    ensures answer { Concludes (problem_of words.now) table.old table.new st s result free.new.shown }
     ensures recalls { MemoTrue (problem_of words.now) (price_in tables.now) memo.new }
 {
-    let s = probes.state;
-    let known = probes.free;
-    let free = gaps::learn_after(words, l, tables, known, s.budget);
+    gaps::learn(words, l, tables, free, s.budget, 1);
     if free.shown {
-        let limit = st.limit;
-        return Searched {
-            step: tell_none(s, limit, st.budget),
-            free,
-        };
+        return tell_none(s, st.limit, st.budget);
     }
-    let step = solve_at_ceiling(words, l, tables, st, s, table, memo);
-    Searched { step, free }
-}
-
-// From where the probes at gaps have come.
-fn solve_after(
-    words: &[u32],
-    l: Layout,
-    tables: &[u32; TABLES],
-    st: State,
-    probes: Probes,
-    table: &mut [u32],
-    memo: &mut [u32],
-) -> Searched
-    requires { AfterDue words.now l tables.now st probes table.old memo.old }
-    ensures answer { Concludes (problem_of words.now) table.old table.new st probes.state result.step result.free.shown }
-    ensures recalls { MemoTrue (problem_of words.now) (price_in tables.now) memo.new }
-{
-    if probes.plan {
-        let s = probes.state;
-        let free = probes.free;
-        let step = solve_by_descent(words, l, tables, st, s, table, memo);
-        return Searched { step, free };
-    }
-    solve_in_vain(words, l, tables, st, probes, table, memo)
+    solve_at_ceiling(words, l, tables, st, s, table, memo)
 }
 
 // An ask: probes at gaps above the root's bound, then one at the ask's own ceiling; from the plan of one the descent to the earliest. Where their tries
@@ -212,14 +169,16 @@ pub fn solve_by_probes(
     l: Layout,
     tables: &[u32; TABLES],
     st: State,
-    free: Findings,
+    free: &mut Findings,
     table: &mut [u32],
     memo: &mut [u32],
-) -> Searched
-    requires { SearchDue words.now l tables.now st free.shown table.old memo.old }
-    ensures answer { SearchDone (problem_of words.now) table.old table.new st result.step result.free.shown }
+) -> Step
+    requires { SearchDue words.now l tables.now st free.old.shown table.old memo.old }
+    ensures answer { SearchDone (problem_of words.now) table.old table.new st result free.new.shown }
     ensures recalls { MemoTrue (problem_of words.now) (price_in tables.now) memo.new }
 {
-    let probes = gaps::probe_gaps(words, l, tables, st, free, table, memo);
-    solve_after(words, l, tables, st, probes, table, memo)
+    match gaps::probe_gaps(words, l, tables, st, free, table, memo) {
+        Probes::AtPlan(s) => solve_by_descent(words, l, tables, st, s, table, memo),
+        Probes::AtCeiling(s) => solve_in_vain(words, l, tables, st, s, free, table, memo),
+    }
 }

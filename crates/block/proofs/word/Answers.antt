@@ -15,8 +15,8 @@ returns-then-q-runs_at c = search word_start
 pub returns-then-q-mark_at : goal.returns-then-q-mark_at
 returns-then-q-mark_at c = search word_run
 
-pub returns-then-i-mark_length : goal.returns-then-i-mark_length
-returns-then-i-mark_length c = search word_mark
+pub returns-then-q-mark_at-2 : goal.returns-then-q-mark_at-2
+returns-then-q-mark_at-2 c = search word_mark
 
-pub returns : goal.returns
-returns c = search word_none
+pub returns-else-q-mark_at-2 : goal.returns-else-q-mark_at-2
+returns-else-q-mark_at-2 c = search word_none

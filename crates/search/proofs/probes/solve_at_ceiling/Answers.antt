@@ -9,26 +9,14 @@ from_root-step-requires c = search ceiling_probes
 pub solve_by_descent-requires : goal.solve_by_descent-requires
 solve_by_descent-requires c = search ceiling_plan
 
--- by name: what was asked stands behind more records than a search enters
-pub returns-then-ended : goal.returns-then-ended
-returns-then-ended c = record {
-  answer = ceiling_ends _ _ _ _ _ _ _ c.requires _ _ c.from_root-step.ensures.answer _ _ c.solve_by_descent.ensures.answer;
-  recalls = c.solve_by_descent.ensures.recalls;
-}
-
--- by name: what was asked stands behind more records than a search enters
-pub returns-then-ended-2 : goal.returns-then-ended-2
-returns-then-ended-2 c = record {
-  answer = ceiling_none _ _ _ _ _ _ _ c.requires _ _ c.from_root-step.ensures.answer _ c.outcome_of-ended.ensures _ c.if-ended-2.true c.tell_none.ensures;
-  recalls = c.from_root-step.ensures.recalls;
-}
-
 pub last_walk-requires : goal.last_walk-requires
 last_walk-requires c = search ceiling_walks
 
--- by name: what was asked stands behind more records than a search enters
-pub returns : goal.returns
-returns c = record {
-  answer = ceiling_ends _ _ _ _ _ _ _ c.requires _ _ c.from_root-step.ensures.answer _ _ c.last_walk.ensures.answer;
-  recalls = c.last_walk.ensures.recalls;
-}
+pub returns-in-Plan-clause-answer : goal.returns-in-Plan-clause-answer
+returns-in-Plan-clause-answer c = search (ceiling_ends, c.requires, c.from_root-step.ensures.answer)
+
+pub returns-in-NoPlan-clause-answer : goal.returns-in-NoPlan-clause-answer
+returns-in-NoPlan-clause-answer c = search (ceiling_none, c.requires, c.from_root-step.ensures.answer)
+
+pub returns-in-Spent-clause-answer : goal.returns-in-Spent-clause-answer
+returns-in-Spent-clause-answer c = search (ceiling_ends, c.requires, c.from_root-step.ensures.answer)
