@@ -1,15 +1,13 @@
 -- What the table of sums says of a node.
 -- Assumes nothing.
-use Prim.Native.Nat.{ℕ, ◌+◌, ◌-◌, ◌*◌, ◌≤◌, ◌<◌}
-use mathlib.Core.Path.{◌≡◌, refl, sym, ap}
-use mathlib.Core.Bool.{true, false}
+use Prim.Native.Nat.{ℕ, max, ◌+◌, ◌-◌, ◌*◌, ◌≤◌, ◌<◌}
+use mathlib.Core.Path.{◌≡◌, refl, ap}
 use mathlib.Core.List.{List}
 use native.Mathlib.Omega.{arith}
 use Rattle.sums.specs.Sum.{sum_to}
 use Rattle.sums.specs.NumSet.{NumSet, has}
 use Rattle.sums.proofs.SumLaws.{sum_mono}
-use Rattle.sums.proofs.LogicLaws.{true_false}
-use Rattle.states.specs.Choices.{Places, PlaceStates, given, gives, ChoiceFloor, NodeSeen, looked_at, counted, greater, idle, gain, flat}
+use Rattle.states.specs.Choices.{Places, PlaceStates, given, gives, ChoiceFloor, NodeDone, counted, idle, gain, flat}
 use Rattle.states.specs.SearchTables.{SearchTables, cost_in, sum_in, places_of, term_of, CAPS, ROOMS, IDLES, GAINS, FLATS, COUNTED_IDLE, COUNTED_GAIN}
 use Rattle.states.specs.SearchTables.{MOST_CAP, MOST_COST, MOST_COST_SUM, MOST_GAIN, MOST_GAIN_SUM, MOST_NEED}
 use Rattle.states.specs.declared.Advice.{Advice}
@@ -17,7 +15,6 @@ use Rattle.states.specs.declared.PlaceState.{PlaceState}
 use Rattle.states.specs.declared.PlaceState.TheVariants.{On, Off, Out}
 use Rattle.states.specs.declared.StateNode.{StateNode}
 use Rattle.states.specs.declared.StateFound.{StateFound}
-use Rattle.states.specs.declared.NodeLooked.{NodeLooked}
 use Rattle.states.proofs.ChoiceLaws.{floor_rate, floor_flat, idle_off, flat_on}
 use Rattle.states.proofs.RangeLaws.{caps_most, ons_most, offs_most, sum_most, gain_most}
 
@@ -98,41 +95,34 @@ cap_most p s k = sum_mono k (gives p s) p.cap (λ i l. by i (s i) refl)
     by i Off e = let h = ap (given p i) e in omega (arith, h)
     by i Out e = let h = ap (given p i) e in omega (arith, h)
 
-module _ (p : Places) (k : ℕ) (y : StateNode) (low : StateFound) (x : NodeLooked) where
-  done_with : (b f o : ℕ) → x ≡ looked_at true b f o → ChoiceFloor p k y.need y.crews (has y.bar) y.score b → b ≤ low.best
-      → NodeSeen p k y low x
-  done_with b f o e h l = rw e (record { ended = λ d. h; less = l; more = λ d. true_false d; score = λ d. true_false d })
-
+module _ (p : Places) (k : ℕ) (y : StateNode) (low : StateFound) where
   -- the best so far is no more than its score
-  pub seen_dear : x ≡ looked_at true low.best low.fuel low.out → low.best ≤ y.score → NodeSeen p k y low x
-  seen_dear e h = done_with low.best low.fuel low.out e (record { below = λ s c. omega (arith, h) }) (omega arith)
+  pub seen_dear : low.best ≤ y.score → NodeDone p k y low low
+  seen_dear h = record { ended = record { below = λ s c. omega (arith, h) }; less = omega arith }
 
   -- or than a lower bound
-  pub seen_bound : (least : ℕ) → x ≡ looked_at true low.best low.fuel low.out
-      → ChoiceFloor p k y.need y.crews (has y.bar) y.score least → low.best ≤ least → NodeSeen p k y low x
-  seen_bound least e f h = done_with low.best low.fuel low.out e (record { below = λ s c. omega (arith, h, f.below s c) }) (omega arith)
+  pub seen_bound : (least : ℕ) → ChoiceFloor p k y.need y.crews (has y.bar) y.score least → low.best ≤ least → NodeDone p k y low low
+  seen_bound least f h = record { ended = record { below = λ s c. omega (arith, h, f.below s c) }; less = omega arith }
 
   -- the fuel is spent: it is worth its lower bounds, the larger of two
-  pub seen_spent : (one two least : ℕ) → x ≡ looked_at true least 0 low.out → ChoiceFloor p k y.need y.crews (has y.bar) y.score one
-      → ChoiceFloor p k y.need y.crews (has y.bar) y.score two → least ≡ greater one two → one < low.best → two < low.best
-      → NodeSeen p k y low x
-  unfolding greater
-  seen_spent one two least e f g m h i =
-      done_with least 0 low.out e (record { below = λ s c. omega (arith, m, f.below s c, g.below s c) }) (omega (arith, m, h, i))
+  pub seen_spent : (one two : ℕ) (found : StateFound) → ChoiceFloor p k y.need y.crews (has y.bar) y.score one
+      → ChoiceFloor p k y.need y.crews (has y.bar) y.score two → found.best ≡ max one two → one < low.best → two < low.best
+      → NodeDone p k y low found
+  seen_spent one two found f g m h i = record {
+    ended = record { below = λ s c. omega (arith, m, f.below s c, g.below s c) };
+    less = omega (arith, m, h, i);
+  }
 
   -- no place is left
-  pub seen_leaf : (fuel out : ℕ) → x ≡ looked_at true y.score fuel out → y.score < low.best → NodeSeen p k y low x
-  seen_leaf fuel out e h = done_with y.score fuel out e (record { below = λ s c. omega arith }) (omega arith)
-
-  -- there is a place to decide
-  pub seen_more : (fuel out : ℕ) → x ≡ looked_at false low.best fuel out → y.score < low.best → (k ≡ 0 → ⊥) → NodeSeen p k y low x
-  seen_more fuel out e h z =
-      rw e (record { ended = λ d. true_false (sym d); less = omega arith; more = λ d. omega (arith, z); score = λ d. omega (arith, h) })
+  pub seen_leaf : (found : StateFound) → found.best ≡ y.score → y.score < low.best → NodeDone p k y low found
+  seen_leaf found e h = record { ended = record { below = λ s c. omega (arith, e) }; less = omega (arith, e, h) }
 
 -- the places left do not suffice
-pub seen_room : (xs ys : List ℕ) (a : Advice) (k : ℕ) (y : StateNode) (low : StateFound) (x : NodeLooked) (room : ℕ) → SearchTables xs ys a → k ≤ 16
-    → room ≡ sum_in ys ROOMS k → room < y.need → x ≡ looked_at true low.best low.fuel low.out → NodeSeen (places_of xs a.shut) k y low x
-seen_room xs ys a k y low x room r l e h is =
-    done_with (places_of xs a.shut) k y low x low.best low.fuel low.out is
-    (record { below = λ s c. absurd (omega (arith, e, h, c.enough, rooms xs ys a r k l, cap_most (places_of xs a.shut) s k)) })
-    (omega arith)
+pub seen_room : (xs ys : List ℕ) (a : Advice) (k : ℕ) (y : StateNode) (low : StateFound) (room : ℕ) → SearchTables xs ys a → k ≤ 16
+    → room ≡ sum_in ys ROOMS k → room < y.need → NodeDone (places_of xs a.shut) k y low low
+seen_room xs ys a k y low room r l e h = record {
+  ended = record {
+    below = λ s c. absurd (omega (arith, e, h, c.enough, rooms xs ys a r k l, cap_most (places_of xs a.shut) s k));
+  };
+  less = omega arith;
+}

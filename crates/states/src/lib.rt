@@ -38,14 +38,6 @@ pub enum PlaceState {
     Out,
 }
 
-// The order in which a place takes its states.
-#[derive(Clone, Copy)]
-pub struct StateOrder {
-    pub first: PlaceState,
-    pub second: PlaceState,
-    pub third: PlaceState,
-}
-
 // What bounds are taken at: what a kilogram is worth, and what a place that is OUT is charged; the same where places are counted and not weighed; and
 // the places that are never OUT.
 #[derive(Clone, Copy)]
@@ -67,13 +59,6 @@ pub struct StateNode {
     pub out: u32,
 }
 
-// What comes of a place in a state: a node, where it is worth a look.
-#[derive(Clone, Copy)]
-pub struct StateChild {
-    pub worth: bool,
-    pub node: StateNode,
-}
-
 // The least so far, the nodes that may still be looked into, and the places OUT in the best choice met.
 #[derive(Clone, Copy)]
 pub struct StateFound {
@@ -82,11 +67,11 @@ pub struct StateFound {
     pub out: u32,
 }
 
-// What is seen of a node: that it is done with, and what is known then.
+// What is known once a node has been looked at: it is done with, or its highest place is still to be decided.
 #[derive(Clone, Copy)]
-pub struct NodeLooked {
-    pub done: bool,
-    pub found: StateFound,
+pub enum Looked {
+    Done(StateFound),
+    Open(StateFound),
 }
 
 // A week with some units out: the units that need no try, how many more crews allow, what it is worth at most, and the nodes to look into.
