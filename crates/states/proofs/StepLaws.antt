@@ -4,18 +4,19 @@ use Prim.Native.Nat.{ℕ, suc, ◌+◌, ◌-◌, ◌≤◌, ◌<◌}
 use mathlib.Core.Path.{◌≡◌, refl, sym, ◌∙◌, ap, subst}
 use mathlib.Core.Bool.{Bool, true, false, not, ◌&&◌, ◌||◌}
 use mathlib.Core.List.{List}
-use Rattle.std.specs.Prelude.{Option, Some, None, slice_index_or}
-use native.Mathlib.Decide.{dec_lt}
+use Rattle.std.specs.Prelude.{Option, Some, None, slice_index_or, get_or}
+use native.Mathlib.Decide.{dec_lt, ℕ_discrete}
 use native.Mathlib.Omega.{arith}
 use lib.Dec.{ltb}
-use borrow.Author.Tests.{lt-ltb, le-ltb, ltb-true}
+use borrow.Author.Tests.{lt-ltb, ltb-true}
 use Rattle.sums.specs.Sum.{sum_to}
 use Rattle.sums.specs.NumSet.{NumSet, has}
 use Rattle.sums.proofs.LogicLaws.{true_false}
 use Rattle.states.specs.Choices.{Places, PlaceStates, given, paid, gone, gives, pays, goes, StateChoice, ChoiceFloor, barred, StateTried, StateHeld, EachState, ChildComes, ChildMade, NodeIs, ChildIs, may_go}
-use Rattle.states.specs.SearchTables.{cost_in, places_of, ONS, OFFS, OUTS, CLASHES}
+use Rattle.states.specs.SearchTables.{places_of}
 use Rattle.states.specs.declared.PlaceState.{PlaceState}
 use Rattle.states.specs.declared.PlaceState.TheVariants.{On, Off, Out}
+use Rattle.states.specs.declared.Costs.{Costs}
 use Rattle.states.specs.declared.StateNode.{StateNode}
 
 or_none : (a b : Bool) → a ≡ false → b ≡ false → (a || b) ≡ false
@@ -124,9 +125,20 @@ tried_less p k need crews bar score v w Off l t = λ h. record { below = λ s c.
 tried_less p k need crews bar score v w Out l t = λ h r f. record { below = λ s c. omega (arith, l, (t h r f).below s c) }
 
 -- what is held at a number is at a smaller one
-pub held_less : (p : Places) (k need crews : ℕ) (bar : NumSet) (score v w : ℕ) (st : PlaceState) → StateHeld p k need crews bar score v st → w ≤ v
+held_less : (p : Places) (k need crews : ℕ) (bar : NumSet) (score v w : ℕ) (st : PlaceState) → StateHeld p k need crews bar score v st → w ≤ v
     → StateHeld p k need crews bar score w st
 held_less p k need crews bar score v w st h l = record { tried = tried_less p k need crews bar score v w st l h.tried }
+
+-- one state more
+pub tried_next : (p : Places) (k need crews : ℕ) (bar : NumSet) (score v w n : ℕ) (o : List PlaceState)
+    → ((m : ℕ) → m < n → StateHeld p k need crews bar score v (slice_index_or o m On)) → w ≤ v
+    → StateHeld p k need crews bar score w (slice_index_or o n On)
+    → (m : ℕ) → m < n + 1 → StateHeld p k need crews bar score w (slice_index_or o m On)
+tried_next p k need crews bar score v w n o h l x m b = by (ℕ_discrete m n)
+  where
+    by : Dec (m ≡ n) → StateHeld p k need crews bar score w (slice_index_or o m On)
+    by (yes e) = subst (λ (i : ℕ). StateHeld p k need crews bar score w (slice_index_or o i On)) (sym e) x
+    by (no z) = held_less p k need crews bar score v w (slice_index_or o m On) (h m (omega (arith, b, z))) l
 
 -- three states in any order, each tried
 pub floor_turn : (p : Places) (k need crews : ℕ) (bar : NumSet) (score r : ℕ) (o : List PlaceState) → 0 < k → EachState o
@@ -208,24 +220,14 @@ module _ (p : Places) (i : ℕ) (y : StateNode) where
 
 -- ---- the tests that are made
 
-pub off_none : (xs : List ℕ) (i off on : ℕ) → on ≡ cost_in xs ONS i → off ≡ cost_in xs OFFS i → on ≤ off
-    → ltb (cost_in xs OFFS i) (cost_in xs ONS i) ≡ false
-off_none xs i off on e f l = rw (← e, ← f) (le-ltb off on l)
+pub go_bit : (off out crews : ℕ) (bar : NumSet) (i : ℕ) (r b : Bool) → r ≡ may_go off out crews bar i → r ≡ b → may_go off out crews bar i ≡ b
+go_bit off out crews bar i r b e f = sym e ∙ f
 
-pub off_some : (xs : List ℕ) (i off on : ℕ) → on ≡ cost_in xs ONS i → off ≡ cost_in xs OFFS i → off < on
-    → ltb (cost_in xs OFFS i) (cost_in xs ONS i) ≡ true
-off_some xs i off on e f l = rw (← e, ← f) (lt-ltb off on l)
-
-pub go_cells : (xs : List ℕ) (i off out crews bar : ℕ) (r b : Bool) → off ≡ cost_in xs OFFS i → out ≡ cost_in xs OUTS i
-    → r ≡ may_go off out crews (has bar) i → r ≡ b
-    → may_go (cost_in xs OFFS i) (cost_in xs OUTS i) crews (has bar) i ≡ b
-go_cells xs i off out crews bar r b e f h g = rw (← e, ← f, ← h) g
-
--- the cells that make the node
-pub bar_or : (xs : List ℕ) (shut i bar c r : ℕ) → c ≡ cost_in xs CLASHES i → ((j : ℕ) → has r j ≡ (has bar j || has c j))
-    → (j : ℕ) → has r j ≡ barred (places_of xs shut) i (has bar) j
+-- the places that are barred then
+pub bar_or : (c : Costs) (shut i bar r : ℕ) → ((j : ℕ) → has r j ≡ (has bar j || has (get_or c.clashes i 0) j))
+    → (j : ℕ) → has r j ≡ barred (places_of c shut) i (has bar) j
 unfolding barred
-bar_or xs shut i bar c r e h j = h j ∙ ap (λ (n : ℕ). has bar j || has n j) e
+bar_or c shut i bar r h j = h j
 
 -- ---- orders
 

@@ -1,7 +1,7 @@
 -- Places that are each ON, OFF or OUT: what a choice of states gives and costs, which choices count, and what every one of them costs at least.
 -- In the field this is a knapsack cover with a third state that a limited number may take.
 -- Assumes nothing.
-use Rattle.std.specs.Prelude.{ℕ, zero, suc, ◌+◌, ◌-◌, ◌*◌, ◌≤◌, ◌<◌, ◌≡◌, Bool, true, false, not, ◌&&◌, ◌||◌, ltb, List, slice_index_or, Option, Some, None}
+use Rattle.std.specs.Prelude.{ℕ, zero, suc, ◌+◌, ◌-◌, ◌*◌, ◌≤◌, ◌<◌, ◌≡◌, min, max, Bool, true, false, not, ◌&&◌, ◌||◌, ltb, List, slice_index_or, Option, Some, None}
 use Rattle.sums.specs.Logic.{if}
 use Rattle.sums.specs.Sum.{sum_to}
 use Rattle.sums.specs.NumSet.{NumSet, has}
@@ -85,13 +85,9 @@ pub record EachState (o : List PlaceState) : Type 0 where
 
 -- ---- at a rate for what is needed and a price for each that is OUT
 
--- the smaller of two
-unfoldable pub lesser : ℕ → ℕ → ℕ
-lesser a b = a - (a - b)
-
 -- what a place costs at least where it is not ON, with the price of being OUT
 unfoldable pub idle : Places → (price : ℕ) → ℕ → ℕ
-idle p price i = if (p.shut i) (p.off i) (lesser (p.off i) (price + p.out i))
+idle p price i = if (p.shut i) (p.off i) (min (p.off i) (price + p.out i))
 
 -- what ON yields above its cost, at the rate
 unfoldable pub gain : Places → (rate price : ℕ) → ℕ → ℕ
@@ -101,20 +97,15 @@ gain p rate price i = (rate * p.cap i + idle p price i) - p.on i
 abbrev pub counted : Places → Places
 counted p = record { cap = λ i. 1; on = p.on; off = p.off; out = p.out; shut = p.shut; clash = p.clash }
 
--- the larger of two
-unfoldable pub greater : ℕ → ℕ → ℕ
-greater a b = a + (b - a)
-
 -- what any j of the places below k give at most
 unfoldable pub top_of : (ℕ → ℕ) → (k j : ℕ) → ℕ
-unfolding greater
 top_of cap zero j = 0
 top_of cap (suc k) zero = 0
-top_of cap (suc k) (suc j) = greater (top_of cap k (suc j)) (top_of cap k j + cap k)
+top_of cap (suc k) (suc j) = max (top_of cap k (suc j)) (top_of cap k j + cap k)
 
 -- what a place costs at least
 unfoldable pub flat : Places → (price : ℕ) → ℕ → ℕ
-flat p price i = lesser (idle p price i) (p.on i)
+flat p price i = min (idle p price i) (p.on i)
 
 -- nothing new comes of place i in a state
 pub record ChildPassed (p : Places) (i : ℕ) (y : StateNode) (st : PlaceState) : Type 0 where

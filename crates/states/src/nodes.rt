@@ -1,37 +1,33 @@
 // A node of the search: what comes of its highest place in each state, the order of the states, and whether it is worth going on.
-ghost use Rattle.std.specs.Prelude.{◌≡◌, ltb, ◌+◌, ◌-◌, ◌*◌, ◌<◌, ◌≤◌};
+ghost use Rattle.std.specs.Prelude.{◌≡◌, ltb, get_or, ◌+◌, ◌-◌, ◌*◌, ◌<◌, ◌≤◌};
 ghost use Rattle.sums.specs.NumSet.{has};
 ghost use Rattle.states.specs.Choices.{EachState, ChildComes, NodeSeen, NodeIs, ChildIs, may_go, barred};
-ghost use Rattle.states.specs.SearchTables.{SearchTables, CostsInRange, cost_in, places_of, CAPS, ONS, OFFS, OUTS, CLASHES, MOST_CAP, MOST_COST, MOST_SCORE};
+ghost use Rattle.states.specs.SearchTables.{SearchTables, CostsInRange, places_of, MOST_COST, MOST_SCORE};
 
-use crate::bounds::{CAPS, CLASHES, COSTS, OFFS, ONS, OUTS, ROOMS, SUMS};
-use crate::{Advice, Looked, PlaceState, StateFound, StateNode, bounds};
+use crate::{Advice, Costs, Looked, PlaceState, StateFound, StateNode, Sums, bounds};
 
 // ---- what comes of a place
 
 // The node with place i ON.
-fn child_on(costs: &[u64; COSTS], i: usize, y: StateNode) -> StateNode
+fn child_on(costs: &Costs, i: usize, y: StateNode) -> StateNode
     requires { CostsInRange costs.now × (i < 16) × (y.score ≤ MOST_SCORE) }
-    ensures { NodeIs (y.need - cost_in costs.now CAPS i) y.crews (y.score + cost_in costs.now ONS i) (has y.bar) result }
+    ensures { NodeIs (y.need - get_or costs.now.caps i 0) y.crews (y.score + get_or costs.now.ons i 0) (has y.bar) result }
 {
-    let cap = bounds::cost_at(costs, CAPS, i);
-    let on = bounds::cost_at(costs, ONS, i);
     StateNode {
-        need: y.need.saturating_sub(cap),
-        score: y.score + on,
+        need: y.need.saturating_sub(costs.caps[i]),
+        score: y.score + costs.ons[i],
         ..y
     }
 }
 
 // The node with place i OFF: not where ON costs no more.
-fn child_off(costs: &[u64; COSTS], i: usize, y: StateNode) -> Option<StateNode>
+fn child_off(costs: &Costs, i: usize, y: StateNode) -> Option<StateNode>
     requires { CostsInRange costs.now × (i < 16) × (y.score ≤ MOST_SCORE) }
-    ensures { ChildIs (ltb (cost_in costs.now OFFS i) (cost_in costs.now ONS i)) y.need y.crews
-        (y.score + cost_in costs.now OFFS i) (has y.bar) result }
+    ensures { ChildIs (ltb (get_or costs.now.offs i 0) (get_or costs.now.ons i 0)) y.need y.crews
+        (y.score + get_or costs.now.offs i 0) (has y.bar) result }
 {
-    let on = bounds::cost_at(costs, ONS, i);
-    let off = bounds::cost_at(costs, OFFS, i);
-    if on <= off {
+    let off = costs.offs[i];
+    if costs.ons[i] <= off {
         return None;
     }
     Some(StateNode {
@@ -48,42 +44,27 @@ fn may_go(off: u64, out: u64, crews: u64, bar: u32, i: usize) -> bool
     out < off && 0 < crews && !sets::has(bar, i)
 }
 
-// The places with which place i clashes.
-fn clashes(costs: &[u64; COSTS], i: usize) -> u32
-    requires { CostsInRange costs.now × (i < 16) }
-    ensures { result ≡ cost_in costs.now CLASHES i }
-{
-    bounds::cost_at(costs, CLASHES, i) as u32
-}
-
 // The node with place i OUT, where that is tried.
-fn child_out(costs: &[u64; COSTS], shut: u32, i: usize, y: StateNode) -> Option<StateNode>
+fn child_out(costs: &Costs, shut: u32, i: usize, y: StateNode) -> Option<StateNode>
     requires { CostsInRange costs.now × (i < 16) × (y.score ≤ MOST_SCORE) }
-    ensures { ChildIs (may_go (cost_in costs.now OFFS i) (cost_in costs.now OUTS i) y.crews (has y.bar) i) y.need (y.crews - 1)
-        (y.score + cost_in costs.now OUTS i) (barred (places_of costs.now shut) i (has y.bar)) result }
+    ensures { ChildIs (may_go (get_or costs.now.offs i 0) (get_or costs.now.outs i 0) y.crews (has y.bar) i) y.need (y.crews - 1)
+        (y.score + get_or costs.now.outs i 0) (barred (places_of costs.now shut) i (has y.bar)) result }
 {
-    let off = bounds::cost_at(costs, OFFS, i);
-    let out = bounds::cost_at(costs, OUTS, i);
-    if !may_go(off, out, y.crews, y.bar, i) {
+    let out = costs.outs[i];
+    if !may_go(costs.offs[i], out, y.crews, y.bar, i) {
         return None;
     }
     Some(StateNode {
         need: y.need,
         crews: y.crews - 1,
-        bar: sets::union(y.bar, clashes(costs, i)),
+        bar: sets::union(y.bar, costs.clashes[i]),
         score: y.score + out,
         out: sets::with(y.out, i),
     })
 }
 
 // What comes of place i in a state: the node, where it is worth a look.
-pub fn after(
-    costs: &[u64; COSTS],
-    shut: u32,
-    i: usize,
-    st: PlaceState,
-    y: StateNode,
-) -> Option<StateNode>
+pub fn after(costs: &Costs, shut: u32, i: usize, st: PlaceState, y: StateNode) -> Option<StateNode>
     requires { CostsInRange costs.now × (i < 16) × (y.score ≤ MOST_SCORE) }
     ensures { ChildComes (places_of costs.now shut) i y st result }
 {
@@ -110,25 +91,17 @@ fn ordered(on: u64, off: u64, out: u64) -> [PlaceState; 3]
     }
 }
 
-// The states of a place by what they cost at a rate and a price.
-fn order_by(rate: u64, price: u64, cap: u64, on: u64, off: u64, out: u64) -> [PlaceState; 3]
-    requires { (rate ≤ MOST_COST) × (price ≤ MOST_COST) × (cap ≤ MOST_CAP) × (off ≤ MOST_COST) × (out ≤ MOST_COST) }
-    ensures { EachState result }
-{
-    let lost = rate * cap;
-    ordered(on, off + lost, out + price + lost)
-}
-
 // The states of place i by what they cost at the rate and the price.
-pub fn order_at(costs: &[u64; COSTS], rate: u64, price: u64, i: usize) -> [PlaceState; 3]
+pub fn order_at(costs: &Costs, rate: u64, price: u64, i: usize) -> [PlaceState; 3]
     requires { CostsInRange costs.now × (rate ≤ MOST_COST) × (price ≤ MOST_COST) × (i < 16) }
     ensures { EachState result }
 {
-    let cap = bounds::cost_at(costs, CAPS, i);
-    let on = bounds::cost_at(costs, ONS, i);
-    let off = bounds::cost_at(costs, OFFS, i);
-    let out = bounds::cost_at(costs, OUTS, i);
-    order_by(rate, price, cap, on, off, out)
+    let lost = rate * costs.caps[i];
+    ordered(
+        costs.ons[i],
+        costs.offs[i] + lost,
+        costs.outs[i] + price + lost,
+    )
 }
 
 // ---- a node before its highest place is decided
@@ -136,8 +109,8 @@ pub fn order_at(costs: &[u64; COSTS], rate: u64, price: u64, i: usize) -> [Place
 // It is cut where the places left cannot suffice, or cannot get below the best; worth its lower bound where the fuel is spent, and its score where no
 // place is left.
 pub fn look(
-    costs: &[u64; COSTS],
-    sums: &[u64; SUMS],
+    costs: &Costs,
+    sums: &Sums,
     a: Advice,
     k: usize,
     y: StateNode,
@@ -149,8 +122,7 @@ pub fn look(
     if low.best <= y.score {
         return Looked::Done(low);
     }
-    let room = bounds::sum_at(sums, ROOMS, k);
-    if room < y.need {
+    if sums.rooms[k] < y.need {
         return Looked::Done(low);
     }
     let weighed = bounds::weighed(costs, sums, a, k, y);

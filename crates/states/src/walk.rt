@@ -4,14 +4,13 @@ ghost use Rattle.sums.specs.NumSet.{has};
 ghost use Rattle.states.specs.Choices.{ChoiceFloor, StateHeld};
 ghost use Rattle.states.specs.SearchTables.{SearchTables, places_of, MOST_SCORE};
 
-use crate::bounds::{COSTS, SUMS};
-use crate::{Advice, Looked, PlaceState, StateFound, StateNode, nodes};
+use crate::{Advice, Costs, Looked, PlaceState, StateFound, StateNode, Sums, nodes};
 
 // The best so far, or less, after all choices with place i in a state.
 #[cycle(branch_turn_walk)]
 fn branch(
-    costs: &[u64; COSTS],
-    sums: &[u64; SUMS],
+    costs: &Costs,
+    sums: &Sums,
     a: Advice,
     i: usize,
     st: PlaceState,
@@ -31,8 +30,8 @@ fn branch(
 // The best so far, or less, after all choices for the places below k, of which there are some.
 #[cycle(branch_turn_walk)]
 fn turn(
-    costs: &[u64; COSTS],
-    sums: &[u64; SUMS],
+    costs: &Costs,
+    sums: &Sums,
     a: Advice,
     k: usize,
     y: StateNode,
@@ -53,8 +52,8 @@ fn turn(
 // The best so far, or less, after all choices for the places below k.
 #[cycle(branch_turn_walk)]
 pub fn walk(
-    costs: &[u64; COSTS],
-    sums: &[u64; SUMS],
+    costs: &Costs,
+    sums: &Sums,
     a: Advice,
     k: usize,
     y: StateNode,

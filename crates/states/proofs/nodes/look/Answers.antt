@@ -4,8 +4,8 @@ use Rattle.std.proofs.Common.{rules}
 use Rattle.states.proofs.TableLaws.{room_under, seen_room}
 use Rattle.states.proofs.nodes.look.Goals as goal
 
-pub returns-then-room-y : goal.returns-then-room-y
-returns-then-room-y c = search seen_room
+pub returns-then-sums-k : goal.returns-then-sums-k
+returns-then-sums-k c = search seen_room
 
 pub weighed-weighed-requires : goal.weighed-weighed-requires
 weighed-weighed-requires c = (search rules, search rules, search room_under, search rules, search rules)
