@@ -11,7 +11,7 @@ use crate::{shows_none, week};
 use instance::Kilo;
 use model::Layout;
 use overhaul::Starts;
-use prices::WANT_WORDS;
+use prices::Wants;
 use tables::{MOST_PRICE, TABLES};
 
 // A price of one.
@@ -121,7 +121,7 @@ fn table_none(words: &[u32], l: Layout, tables: &[u32; TABLES], by: Pricing) -> 
     requires { PricedFile words.now l tables.now }
     ensures { ShowsNone (problem_of words.now) result }
 {
-    let mut wants: [u32; WANT_WORDS] = [0; WANT_WORDS];
+    let mut wants = Wants::NONE;
     let next = fixed_prices(words, l, tables, by);
     shows_none(words, l, &next, &mut wants)
 }
