@@ -1,11 +1,12 @@
 -- A node of a week of the free plant: what it comes to at least, when it is done with, and what its two children leave.
 -- Assumes nothing.
-use Prim.Native.Nat.{ℕ, suc, ◌+◌, ◌-◌, ◌*◌, ◌≤◌, ◌<◌}
+use Prim.Native.Nat.{ℕ, min, suc, ◌+◌, ◌-◌, ◌*◌, ◌≤◌, ◌<◌}
 use mathlib.Core.Path.{◌≡◌, refl, sym, ◌∙◌, ap, subst}
 use mathlib.Core.Bool.{Bool, true, false, ◌||◌}
 use mathlib.Core.List.{List}
 use mathlib.Core.Logic.{◌⊎◌, inl, inr}
 use native.Mathlib.Nat.{mul-le-mul}
+use native.Mathlib.Decide.{dec_lt}
 use native.Mathlib.Omega.{arith}
 use Rattle.sums.specs.Sum.{sum_to}
 use Rattle.sums.specs.NumSet.{NumSet, only_in, complement, has}
@@ -31,11 +32,13 @@ use Rattle.farkas.proofs.FloorLaws.{sum_without, floor_less, floor_bars, floor_s
 pub crews_fit : (crews top r : ℕ) → crews ≤ 16 → r ≡ top → top ≤ MOST_PRICE → crews * r < 18446744073709551616
 crews_fit crews top r few is low = omega (arith, mul-le-mul few low, ap (λ (n : ℕ). crews * n) is)
 
-pub saves_open : (xs : List ℕ) (k crews r : ℕ) → r ≡ entry xs (OPEN + k) → Savable xs k crews r
-saves_open xs k crews r e = record { either = inl e }
-
-pub saves_crews : (xs : List ℕ) (k crews top r : ℕ) → top ≡ entry xs (TOP + k) → r ≡ crews * top → Savable xs k crews r
-saves_crews xs k crews top r is e = record { either = inr (e ∙ ap (λ (n : ℕ). crews * n) is) }
+pub saves_least : (xs : List ℕ) (k crews all top r : ℕ) → all ≡ entry xs (OPEN + k) → top ≡ entry xs (TOP + k) → r ≡ min all (crews * top)
+    → Savable xs k crews r
+saves_least xs k crews all top r e f h = record { either = by (dec_lt all (crews * top)) }
+  where
+    by : Dec (all < crews * top) → (r ≡ entry xs (OPEN + k)) ⊎ (r ≡ crews * entry xs (TOP + k))
+    by (yes l) = inl (omega (arith, e, h, l))
+    by (no l) = inr (omega (arith, h, l) ∙ ap (λ (n : ℕ). crews * n) f)
 
 module _ (ws : List ℕ) (l : Layout) (us xs : List ℕ) (k : ℕ) (y : FreeNode) where
   -- the highest price is in its range
@@ -72,13 +75,6 @@ module _ (ws : List ℕ) (l : Layout) (us xs : List ℕ) (k : ℕ) (y : FreeNode
   pub seen_short : (caps : ℕ) → NodeDue ws l us xs k y → caps ≡ entry xs (CAPS + k) → caps < y.need.0 → NodeDone (problem_of ws) us k y low low
   seen_short caps due is short = record {
     floor = record { floor = floor_short (problem_of ws) (price_in us) y.week (omega (arith, due.sums.caps k due.units)) };
-    less = omega arith;
-  }
-
-  -- it cannot come below the least
-  pub seen_over : (v : ℕ) → NodeFloor (problem_of ws) us k y v → low.value.0 ≤ v → NodeDone (problem_of ws) us k y low low
-  seen_over v floor over = record {
-    floor = record { floor = floor_less (problem_of ws) (price_in us) y.week over floor.floor };
     less = omega arith;
   }
 

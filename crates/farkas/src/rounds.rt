@@ -38,10 +38,7 @@ fn raised(price: u64, by: u64) -> u64
     requires { (price ≤ MOST_PRICE) × (by ≤ MOST_PRICE + 1) }
     ensures { result ≤ MOST_PRICE }
 {
-    if MOST_PRICE < price + by {
-        return MOST_PRICE;
-    }
-    price + by
+    (price + by).min(MOST_PRICE)
 }
 
 fn lowered(price: u64, by: u64) -> u64

@@ -8,7 +8,7 @@ ghost use Rattle.model.specs.Words.{problem_of};
 ghost use Rattle.blame.specs.Free.{WeekFree};
 ghost use Rattle.instance.specs.Filed.{Filed};
 ghost use Rattle.tables.specs.Tables.{MOST_PRICE, MOST_WEEK_PRICES, price_in};
-ghost use Rattle.farkas.specs.Choices.{NEVER, TOP, CAPS, NO_WEEK, NeverTo, NeverDue, OpenPrice, LargerOf, UnitAdded, SumsDue, AtRoot, FreeAt, Savable, NodeDue, NodeAt, TryAt, StayDue, NodeFloor, NodeDone, Seen, Stays, Leaves, OutTried};
+ghost use Rattle.farkas.specs.Choices.{NEVER, TOP, CAPS, NO_WEEK, NeverTo, NeverDue, OpenPrice, UnitAdded, SumsDue, AtRoot, FreeAt, Savable, NodeDue, NodeAt, TryAt, StayDue, NodeFloor, NodeDone, Seen, Stays, Leaves, OutTried};
 
 use instance::{Euro, Kilo};
 use model::Layout;
@@ -110,16 +110,6 @@ fn open_price(never: u64, i: usize, price: Euro) -> u64
     price.0
 }
 
-// The larger of two.
-fn larger(a: u64, b: u64) -> u64
-    ensures { LargerOf a b result }
-{
-    if a < b {
-        return b;
-    }
-    a
-}
-
 // The sums over the units up to one.
 #[derive(Clone, Copy)]
 struct SumsWith {
@@ -150,7 +140,7 @@ fn sums_with(
     SumsWith {
         prices: prices + price.0,
         saved: opens + open,
-        top: larger(sums[TOP + i], open),
+        top: sums[TOP + i].max(open),
         caps: caps + given.0,
     }
 }
@@ -227,13 +217,8 @@ fn savable(sums: &[u64; SUMS], k: usize, crews: u64) -> u64
     requires { (k < 17) × (crews ≤ 16) × (entry sums.now (TOP + k) ≤ MOST_PRICE) }
     ensures { Savable sums.now k crews result }
 {
-    let open = sum_at(sums, OPEN, k);
-    let top = sum_at(sums, TOP, k);
-    let most = crews * top;
-    if open < most {
-        return open;
-    }
-    most
+    let most = crews * sum_at(sums, TOP, k);
+    sum_at(sums, OPEN, k).min(most)
 }
 
 // What a node comes to at least.
