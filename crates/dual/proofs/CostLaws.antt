@@ -1,7 +1,7 @@
 -- What overhauls cost at prices, a turn of each loop at a time: a week more of an overhaul, the least of a unit's permitted starts, and a table of
 -- what each unit costs from each start.
 -- Assumes nothing.
-use Prim.Native.Nat.{ℕ, suc, ◌+◌, ◌*◌, ◌-◌, ◌≤◌, ◌<◌}
+use Prim.Native.Nat.{ℕ, min, suc, ◌+◌, ◌*◌, ◌-◌, ◌≤◌, ◌<◌}
 use mathlib.Core.Path.{◌≡◌, sym, ◌∙◌, ap, subst}
 use mathlib.Core.Bool.{Bool, true, false}
 use mathlib.Core.List.{List}
@@ -136,14 +136,13 @@ pub record LeastTo (p : Problem) (u : ℕ → ℕ → ℕ) (i s v : ℕ) : Type 
 pub least_start : (p : Problem) (u : ℕ → ℕ → ℕ) (i a b : ℕ) → StartRange p i a b → LeastTo p u i a MOST_OVERHAUL
 least_start p u i a b g = record { below = λ q l e. absurd (omega (arith, (range_at p i a b q g e).0)); small = omega arith }
 
--- one more: less what it is above the cost
-pub least_next : (p : Problem) (u : ℕ → ℕ → ℕ) (i s v c d r : ℕ) → LeastTo p u i s v → c ≡ priced p u i s → d ≡ v - c → r ≡ v - d
-    → LeastTo p u i (s + 1) r
-least_next p u i s v c d r h e above less = record { below = λ q l t. by q l t (ℕ_discrete q s); small = omega (arith, h.small) }
+-- one more: the smaller of the two
+pub least_next : (p : Problem) (u : ℕ → ℕ → ℕ) (i s v c r : ℕ) → LeastTo p u i s v → c ≡ priced p u i s → r ≡ min v c → LeastTo p u i (s + 1) r
+least_next p u i s v c r h e less = record { below = λ q l t. by q l t (ℕ_discrete q s); small = omega (arith, h.small, less) }
   where
     by : (q : ℕ) → q < s + 1 → permitted p i q ≡ true → Dec (q ≡ s) → r ≤ priced p u i q
-    by q l t (yes z) = rw z (omega arith)
-    by q l t (no z) = omega (arith, h.below q (omega arith) t)
+    by q l t (yes z) = rw z (omega (arith, e, less))
+    by q l t (no z) = omega (arith, less, h.below q (omega arith) t)
 
 -- all of them
 pub least_ended : (p : Problem) (u : ℕ → ℕ → ℕ) (i a b s v : ℕ) → StartsTo p i a b s → LeastTo p u i s v → b ≤ s → LeastFrom p u i v

@@ -39,13 +39,11 @@ pub fn next_node(node: Node, bound: Euro) -> Node
     requires { node.unit < 16 }
     ensures { IsNext node bound result }
 {
-    let starts = node.starts;
-    let placed = sets::with(node.placed, node.unit);
     Node {
-        starts,
         unit: node.unit + 1,
         bound,
-        placed,
+        placed: sets::with(node.placed, node.unit),
+        ..node
     }
 }
 
@@ -53,13 +51,7 @@ pub fn next_node(node: Node, bound: Euro) -> Node
 pub fn with_bound(node: Node, bound: Euro) -> Node
     ensures { result ≡ with_bound node bound }
 {
-    let starts = node.starts;
-    Node {
-        starts,
-        unit: node.unit,
-        bound,
-        placed: node.placed,
-    }
+    Node { bound, ..node }
 }
 
 // ---- what overhauls cost
@@ -116,8 +108,7 @@ fn least_priced(words: &[u32], l: Layout, tables: &[u32; TABLES], i: usize) -> E
     let mut least = Euro(MOST_OVERHAUL);
     for s in starts.first..starts.last + 1 {
         let cost = priced_cost(words, l, tables, i, s);
-        // The smaller of the two: the least so far, less what it is above this cost.
-        least = least.less(least.less(cost));
+        least = Euro(least.0.min(cost.0));
     }
     least
 }
@@ -395,7 +386,7 @@ pub fn cost_below(tables: &[u32; TABLES], sum: Euro, limit: Euro) -> Euro
     ensures { result.0 ≤ limit.0 }
 {
     let cost = sum.less(tables::total(tables));
-    cost.less(cost.less(limit))
+    Euro(cost.0.min(limit.0))
 }
 
 // The units that are to blame, of those placed: where the bound of their starts comes to the limit, only those whose starts keep it there. What the

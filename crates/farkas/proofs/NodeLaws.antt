@@ -1,11 +1,12 @@
 -- A node of a week of the free plant: what it comes to at least, when it is done with, and what its two children leave.
 -- Assumes nothing.
-use Prim.Native.Nat.{ℕ, zero, suc, ◌+◌, ◌-◌, ◌*◌, ◌≤◌, ◌<◌}
+use Prim.Native.Nat.{ℕ, min, suc, ◌+◌, ◌-◌, ◌*◌, ◌≤◌, ◌<◌}
 use mathlib.Core.Path.{◌≡◌, refl, sym, ◌∙◌, ap, subst}
 use mathlib.Core.Bool.{Bool, true, false, ◌||◌}
 use mathlib.Core.List.{List}
 use mathlib.Core.Logic.{◌⊎◌, inl, inr}
 use native.Mathlib.Nat.{mul-le-mul}
+use native.Mathlib.Decide.{dec_lt}
 use native.Mathlib.Omega.{arith}
 use Rattle.sums.specs.Sum.{sum_to}
 use Rattle.sums.specs.NumSet.{NumSet, only_in, complement, has}
@@ -17,14 +18,12 @@ use Rattle.model.specs.Rules.{output, headcount}
 use Rattle.model.specs.Pairs.{apart}
 use Rattle.model.specs.Plan.{Compatible}
 use Rattle.model.specs.Words.{problem_of}
-use Rattle.instance.specs.declared.Euro.{Euro}
 use Rattle.tables.specs.Tables.{MOST_PRICE, MOST_WEEK_PRICES, price_in, partners_in}
 use Rattle.farkas.specs.declared.week.FreeNode.{FreeNode}
 use Rattle.farkas.specs.declared.week.FreeWeek.{FreeWeek}
-use Rattle.farkas.specs.declared.week.Looked.{Looked}
 use Rattle.blame.specs.Free.{WeekFree}
 use Rattle.blame.proofs.PairLaws.{compatible_clear}
-use Rattle.farkas.specs.Choices.{OPEN, TOP, CAPS, NO_WEEK, MayBeOut, SumsDue, AtRoot, Floor, never_in, FreeAt, Savable, NodeDue, NodeAt, TryAt, StayDue, NodeFloor, NodeDone, ended_at, Seen, Stays, barred, Leaves, OutTried}
+use Rattle.farkas.specs.Choices.{OPEN, TOP, CAPS, NO_WEEK, MayBeOut, SumsDue, AtRoot, Floor, never_in, FreeAt, Savable, NodeDue, NodeAt, TryAt, StayDue, NodeFloor, NodeDone, NodeOpen, Stays, barred, Leaves, OutTried}
 use Rattle.farkas.proofs.FloorLaws.{sum_without, floor_less, floor_bars, floor_short, floor_open, floor_crews, floor_turn}
 
 -- ---- what is saved
@@ -33,11 +32,13 @@ use Rattle.farkas.proofs.FloorLaws.{sum_without, floor_less, floor_bars, floor_s
 pub crews_fit : (crews top r : ℕ) → crews ≤ 16 → r ≡ top → top ≤ MOST_PRICE → crews * r < 18446744073709551616
 crews_fit crews top r few is low = omega (arith, mul-le-mul few low, ap (λ (n : ℕ). crews * n) is)
 
-pub saves_open : (xs : List ℕ) (k crews r : ℕ) → r ≡ entry xs (OPEN + k) → Savable xs k crews r
-saves_open xs k crews r e = record { either = inl e }
-
-pub saves_crews : (xs : List ℕ) (k crews top r : ℕ) → top ≡ entry xs (TOP + k) → r ≡ crews * top → Savable xs k crews r
-saves_crews xs k crews top r is e = record { either = inr (e ∙ ap (λ (n : ℕ). crews * n) is) }
+pub saves_least : (xs : List ℕ) (k crews all top r : ℕ) → all ≡ entry xs (OPEN + k) → top ≡ entry xs (TOP + k) → r ≡ min all (crews * top)
+    → Savable xs k crews r
+saves_least xs k crews all top r e f h = record { either = by (dec_lt all (crews * top)) }
+  where
+    by : Dec (all < crews * top) → (r ≡ entry xs (OPEN + k)) ⊎ (r ≡ crews * entry xs (TOP + k))
+    by (yes l) = inl (omega (arith, e, h, l))
+    by (no l) = inr (omega (arith, h, l) ∙ ap (λ (n : ℕ). crews * n) f)
 
 module _ (ws : List ℕ) (l : Layout) (us xs : List ℕ) (k : ℕ) (y : FreeNode) where
   -- the highest price is in its range
@@ -69,50 +70,13 @@ module _ (ws : List ℕ) (l : Layout) (us xs : List ℕ) (k : ℕ) (y : FreeNode
 
 -- ---- a node that is done with
 
-module _ (ws : List ℕ) (l : Layout) (us xs : List ℕ) (k : ℕ) (y : FreeNode) (low : FreeWeek) (r : Looked) where
-  -- by a number that every choice comes to at least, and that is no more than the least
-  seen_by : (value : Euro) (out fuel : ℕ) → r ≡ ended_at value out fuel → NodeFloor (problem_of ws) us k y value.0 → value.0 ≤ low.value.0
-      → Seen (problem_of ws) us k y low r
-  seen_by value out fuel is floor less = subst (λ (z : Looked). Seen (problem_of ws) us k y low z) (sym is) (record {
-    ended = λ e. record { floor = floor; less = less };
-    same = λ e. true_false e;
-    more = λ e. true_false e;
-    crew = λ e. true_false e;
-  })
-
+module _ (ws : List ℕ) (l : Layout) (us xs : List ℕ) (k : ℕ) (y : FreeNode) (low : FreeWeek) where
   -- the capacities left fall short
-  pub seen_short : (value : Euro) (caps out fuel : ℕ) → NodeDue ws l us xs k y → caps ≡ entry xs (CAPS + k) → caps < y.need.0 → value ≡ low.value
-      → r ≡ ended_at value out fuel → Seen (problem_of ws) us k y low r
-  seen_short value caps out fuel due is short same e =
-      seen_by value out fuel e
-      (record { floor = floor_short (problem_of ws) (price_in us) y.week (omega (arith, due.sums.caps k due.units)) })
-      (rw same (omega arith))
-
-  -- it cannot come below the least
-  pub seen_over : (value : Euro) (v out fuel : ℕ) → NodeFloor (problem_of ws) us k y v → value.0 ≤ v → value ≡ low.value → r ≡ ended_at value out fuel
-      → Seen (problem_of ws) us k y low r
-  seen_over value v out fuel floor over same e =
-      seen_by value out fuel e (record { floor = floor_less (problem_of ws) (price_in us) y.week over floor.floor }) (rw same (omega arith))
-
-  -- it counts as what it comes to at least
-  pub seen_value : (least value : Euro) (out fuel : ℕ) → NodeFloor (problem_of ws) us k y value.0 → value.0 < least.0 → least ≡ low.value
-      → r ≡ ended_at value out fuel → Seen (problem_of ws) us k y low r
-  seen_value least value out fuel floor less same e =
-      seen_by value out fuel e floor (let h : least.0 ≡ low.value.0 = ap (λ (n : Euro). n.0) same in omega arith)
-
--- a unit is to be decided
-pub seen_on : (p : Problem) (us : List ℕ) (k : ℕ) (y : FreeNode) (low : FreeWeek) (out fuel : ℕ) → (k ≡ 0 → ⊥) → (y.crews ≡ 0 → ⊥)
-    → Seen p us k y low (record { done = false; found = record { value = low.value; out = out; fuel = fuel } })
-seen_on p us k y low out fuel some crew = record {
-  ended = λ e. true_false (sym e);
-  same = λ e. refl;
-  more = λ e. by k some;
-  crew = λ e. by y.crews crew;
-}
-  where
-    by : (n : ℕ) → (n ≡ 0 → ⊥) → 0 < n
-    by zero never = absurd (never refl)
-    by (suc n) never = omega arith
+  pub seen_short : (caps : ℕ) → NodeDue ws l us xs k y → caps ≡ entry xs (CAPS + k) → caps < y.need.0 → NodeDone (problem_of ws) us k y low low
+  seen_short caps due is short = record {
+    floor = record { floor = floor_short (problem_of ws) (price_in us) y.week (omega (arith, due.sums.caps k due.units)) };
+    less = omega arith;
+  }
 
 -- ---- a unit stays or is out
 
@@ -136,34 +100,27 @@ node_open ws l us xs k y at = at
 
 module _ (ws : List ℕ) (l : Layout) (us xs : List ℕ) (i k : ℕ) (y : FreeNode) where
   -- the highest unit of a node
-  pub try_due : (low : FreeWeek) (r : Looked) → NodeAt ws l us xs k y → Seen (problem_of ws) us k y low r → r.done ≡ false → i ≡ k - 1
+  pub try_due : (low found : FreeWeek) → NodeAt ws l us xs k y → NodeOpen k y low found → i ≡ k - 1
       → TryAt ws l us xs i y
   unfolding NodeAt
-  try_due low r at seen on is =
-      let some = seen.more on in
+  try_due low found at seen is =
+      let some = seen.more in
       record {
         at = at.at;
         unit = let h = at.units in omega arith;
         node = subst (λ (n : ℕ). NodeDue ws l us xs n y) (top some) at;
-        crew = seen.crew on;
+        crew = seen.crew;
       }
     where
       top : 0 < k → k ≡ suc i
       top some = omega arith
 
   -- the units left fall
-  pub falls_out : (low : FreeWeek) (r : Looked) (n : ℕ) → Seen (problem_of ws) us k y low r → r.done ≡ false → i ≡ k - 1 → 2 * k ≡ n → 2 * i + 1 < n
-  falls_out low r n seen on is e = let some = seen.more on in omega arith
+  pub falls_out : (low found : FreeWeek) (n : ℕ) → NodeOpen k y low found → i ≡ k - 1 → 2 * k ≡ n → 2 * i + 1 < n
+  falls_out low found n seen is e = let some = seen.more in omega arith
 
-  pub falls_stay : (low : FreeWeek) (r : Looked) (n : ℕ) → Seen (problem_of ws) us k y low r → r.done ≡ false → i ≡ k - 1 → 2 * k ≡ n → 2 * i < n
-  falls_stay low r n seen on is e = let some = seen.more on in omega arith
-
-  pub walk_some : (low : FreeWeek) (r : Looked) → Seen (problem_of ws) us k y low r → r.done ≡ false → 1 ≤ k
-  walk_some low r seen on = seen.more on
-
-  pub walk_ended : (low found : FreeWeek) (r : Looked) → Seen (problem_of ws) us k y low r → found ≡ r.found → r.done ≡ true
-      → NodeDone (problem_of ws) us k y low found
-  walk_ended low found r seen is done = rw is (seen.ended done)
+  pub falls_stay : (low found : FreeWeek) (n : ℕ) → NodeOpen k y low found → i ≡ k - 1 → 2 * k ≡ n → 2 * i < n
+  falls_stay low found n seen is e = let some = seen.more in omega arith
 
 -- ---- the children of a node
 
@@ -189,11 +146,11 @@ module _ (ws : List ℕ) (l : Layout) (us xs : List ℕ) (i : ℕ) (y z : FreeNo
   }
 
   -- unit i stays
-  pub node_stays : (k : ℕ) (low : FreeWeek) (r : Looked) → NodeAt ws l us xs k y → Seen (problem_of ws) us k y low r → r.done ≡ false → i ≡ k - 1
+  pub node_stays : (k : ℕ) (low found : FreeWeek) → NodeAt ws l us xs k y → NodeOpen k y low found → i ≡ k - 1
       → Stays (problem_of ws) us i y z → NodeAt ws l us xs i z
   unfolding NodeAt
-  node_stays k low r node seen on is h =
-      let at = try_due ws l us xs i k y low r node seen on is in
+  node_stays k low found node seen is h =
+      let at = try_due ws l us xs i k y low found node seen is in
       let u = at.unit in
       let s = at.node.small in
       record {
@@ -206,11 +163,11 @@ module _ (ws : List ℕ) (l : Layout) (us xs : List ℕ) (i : ℕ) (y z : FreeNo
       }
 
 -- what staying asks
-pub stay_due : (ws : List ℕ) (l : Layout) (us xs : List ℕ) (i k : ℕ) (y : FreeNode) (low : FreeWeek) (r : Looked) → NodeAt ws l us xs k y
-    → Seen (problem_of ws) us k y low r → r.done ≡ false → i ≡ k - 1 → StayDue ws l us i y
+pub stay_due : (ws : List ℕ) (l : Layout) (us xs : List ℕ) (i k : ℕ) (y : FreeNode) (low found : FreeWeek) → NodeAt ws l us xs k y
+    → NodeOpen k y low found → i ≡ k - 1 → StayDue ws l us i y
 unfolding NodeAt
-stay_due ws l us xs i k y low r node seen on is =
-    let at = try_due ws l us xs i k y low r node seen on is in
+stay_due ws l us xs i k y low found node seen is =
+    let at = try_due ws l us xs i k y low found node seen is in
     let s = at.node.small in
     record { at = at.at; unit = at.unit; small = omega arith }
 
@@ -250,10 +207,10 @@ module _ (p : Problem) (us : List ℕ) (i : ℕ) (y : FreeNode) where
       (subst (λ (n : ℕ). Floor p (price_in us) n i z.need.0 z.crews (has z.bar) z.score.0 v) h.week f.floor))))
 
   -- both were tried
-  pub node_done : (z : FreeNode) (k : ℕ) (low first second found : FreeWeek) (r : Looked) → Seen p us k y low r → r.done ≡ false → first ≡ r.found → i ≡ k - 1
+  pub node_done : (z : FreeNode) (k : ℕ) (low first second found : FreeWeek) → NodeOpen k y low first → i ≡ k - 1
       → OutTried p us i y first second → Stays p us i y z → NodeDone p us i z second found → NodeDone p us k y low found
-  node_done z k low first second found r seen on is at out h done =
-      let some = seen.more on in
+  node_done z k low first second found seen at out h done =
+      let some = seen.more in
       let a = out.less in
       let b = done.less in
       subst (λ (n : ℕ). NodeDone p us n y low found) (top some) (record {
@@ -262,7 +219,7 @@ module _ (p : Problem) (us : List ℕ) (i : ℕ) (y : FreeNode) where
               (stays_floor z found.value.0 h done.floor)
               (λ free pays. floor_less p (price_in us) y.week done.less (out.floor.floor free pays));
         };
-        less = omega (arith, ap (λ (n : FreeWeek). n.value.0) is, seen.same on);
+        less = omega (arith, seen.same);
       })
     where
       top : 0 < k → suc i ≡ k

@@ -1,11 +1,12 @@
 -- The sums over the units of a week: who may never be out, one unit more put in, and all of them.
 -- Assumes nothing.
-use Prim.Native.Nat.{ℕ, zero, suc, ◌+◌, ◌*◌, ◌≤◌, ◌<◌}
+use Prim.Native.Nat.{ℕ, max, zero, suc, ◌+◌, ◌*◌, ◌≤◌, ◌<◌}
 use mathlib.Core.Path.{◌≡◌, refl, sym, ◌∙◌, ap, subst}
 use mathlib.Core.Bool.{Bool, true, false, not}
 use mathlib.Core.List.{List}
 use mathlib.Core.Logic.{◌⊎◌, inl, inr, ⊎_elim}
 use native.Mathlib.Nat.{eq-or-lt_of_le}
+use native.Mathlib.Decide.{dec_lt}
 use native.Mathlib.Omega.{arith}
 use lib.ListN.{length, get_or, set, replicate, length-set, length-replicate}
 use lib.Seq.{get_or-set_same, get_or-set_other}
@@ -71,11 +72,12 @@ price_open never n i price r b same is e v = record {
   small = omega arith;
 }
 
-pub larger_second : (a b : ℕ) → a < b → LargerOf a b b
-larger_second a b h = record { first = omega arith; second = omega arith; either = inr refl }
-
-pub larger_first : (a b : ℕ) → b ≤ a → LargerOf a b a
-larger_first a b h = record { first = omega arith; second = h; either = inl refl }
+pub larger_of : (a b r : ℕ) → r ≡ max a b → LargerOf a b r
+larger_of a b r e = by (dec_lt a b)
+  where
+    by : Dec (a < b) → LargerOf a b r
+    by (yes l) = record { first = omega (arith, e); second = omega (arith, e); either = inr (omega (arith, e, l)) }
+    by (no l) = record { first = omega (arith, e); second = omega (arith, e); either = inl (omega (arith, e, l)) }
 
 -- ---- one unit more
 

@@ -9,12 +9,12 @@ use Rattle.model.specs.declared.Layout.{Layout}
 use Rattle.model.specs.Problem.{Problem}
 use Rattle.model.specs.Pairs.{apart}
 use Rattle.model.specs.Words.{problem_of}
-use Rattle.instance.specs.declared.Euro.{Euro}
 use Rattle.instance.specs.Filed.{Filed}
 use Rattle.tables.specs.Tables.{MOST_WEEK_PRICES, MOST_PRICE, price_in, Priced}
 use Rattle.farkas.specs.declared.week.FreeNode.{FreeNode}
 use Rattle.farkas.specs.declared.week.FreeWeek.{FreeWeek}
 use Rattle.farkas.specs.declared.week.Looked.{Looked}
+use Rattle.farkas.specs.declared.week.Looked.TheVariants.{Done, Open}
 use Rattle.farkas.specs.declared.week.SumsWith.{SumsWith}
 
 -- ---- sets of units out
@@ -172,16 +172,16 @@ pub record NodeDone (p : Problem) (us : List ℕ) (k : ℕ) (y : FreeNode) (low 
   pub floor : NodeFloor p us k y found.value.0
   pub less : found.value.0 ≤ low.value.0
 
--- a node that is done with
-abbrev pub ended_at : Euro → (out fuel : ℕ) → Looked
-ended_at value out fuel = record { done = true; found = record { value = value; out = out; fuel = fuel } }
+-- there is a unit to decide and a crew for it, and the least is as it was
+pub record NodeOpen (k : ℕ) (y : FreeNode) (low found : FreeWeek) : Type 0 where
+  pub same : found.value.0 ≡ low.value.0
+  pub more : 0 < k
+  pub crew : 0 < y.crews
 
--- what is seen of a node: it is done with, or there is a unit to decide and a crew for it
-pub record Seen (p : Problem) (us : List ℕ) (k : ℕ) (y : FreeNode) (low : FreeWeek) (r : Looked) : Type 0 where
-  pub ended : r.done ≡ true → NodeDone p us k y low r.found
-  pub same : r.done ≡ false → r.found.value.0 ≡ low.value.0
-  pub more : r.done ≡ false → 0 < k
-  pub crew : r.done ≡ false → 0 < y.crews
+-- what is seen of a node: it is done with, or open
+abbrev pub Seen : Problem → List ℕ → ℕ → FreeNode → FreeWeek → Looked → Type 0
+Seen p us k y low (Done found) = NodeDone p us k y low found
+Seen p us k y low (Open found) = NodeOpen k y low found
 
 -- the node with unit i staying
 pub record Stays (p : Problem) (us : List ℕ) (i : ℕ) (y z : FreeNode) : Type 0 where

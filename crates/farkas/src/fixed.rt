@@ -11,7 +11,7 @@ use crate::{shows_none, week};
 use instance::Kilo;
 use model::Layout;
 use overhaul::Starts;
-use prices::WANT_WORDS;
+use prices::Wants;
 use tables::{MOST_PRICE, TABLES};
 
 // A price of one.
@@ -29,23 +29,14 @@ pub enum Pricing {
 fn always_out(starts: Starts, duration: usize, t: usize) -> bool
     requires { (starts.last ≤ 52) × (duration ≤ 52) × (t < 52) }
 {
-    if starts.last < starts.first {
-        return false;
-    }
-    if t + 1 < starts.last {
-        return false;
-    }
-    t + 1 < starts.first + duration
+    starts.first <= starts.last && starts.last <= t + 1 && t + 1 < starts.first + duration
 }
 
 // Whether some permitted start has it out.
 fn sometimes_out(starts: Starts, duration: usize, t: usize) -> bool
     requires { (starts.last ≤ 52) × (duration ≤ 52) × (t < 52) }
 {
-    if t + 1 < starts.first {
-        return false;
-    }
-    t + 1 < starts.last + duration
+    starts.first <= t + 1 && t + 1 < starts.last + duration
 }
 
 // A price, or none.
@@ -53,10 +44,7 @@ fn price_where(yes: bool, price: u64) -> u64
     requires { price ≤ MOST_PRICE }
     ensures { result ≤ MOST_PRICE }
 {
-    if yes {
-        return price;
-    }
-    0
+    if yes { price } else { 0 }
 }
 
 // One, by what a unit gives against the mean of all.
@@ -67,11 +55,7 @@ fn weighed(given: Kilo, mean: u64) -> u64
     if mean == 0 {
         return ONE;
     }
-    let price = ONE * given.0 / mean;
-    if MOST_PRICE < price {
-        return MOST_PRICE;
-    }
-    price
+    (ONE * given.0 / mean).min(MOST_PRICE)
 }
 
 // The price of unit i in week t, where the mean of what units give is this.
@@ -121,7 +105,7 @@ fn table_none(words: &[u32], l: Layout, tables: &[u32; TABLES], by: Pricing) -> 
     requires { PricedFile words.now l tables.now }
     ensures { ShowsNone (problem_of words.now) result }
 {
-    let mut wants: [u32; WANT_WORDS] = [0; WANT_WORDS];
+    let mut wants = Wants::NONE;
     let next = fixed_prices(words, l, tables, by);
     shows_none(words, l, &next, &mut wants)
 }

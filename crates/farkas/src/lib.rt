@@ -16,7 +16,7 @@ ghost use Rattle.farkas.specs.Sums.{MOST_FREE, Summed, ShowsNone};
 
 use instance::Euro;
 use model::Layout;
-use prices::{LEAST_STARTS, WANT_WORDS};
+use prices::Wants;
 use tables::TABLES;
 
 mod fixed;
@@ -27,12 +27,7 @@ mod week;
 // ---- what overhauls and weeks come to
 
 // What all overhauls come to at least; the start that each unit wants is written.
-fn units_sum(
-    words: &[u32],
-    l: Layout,
-    tables: &[u32; TABLES],
-    wants: &mut [u32; WANT_WORDS],
-) -> Euro
+fn units_sum(words: &[u32], l: Layout, tables: &[u32; TABLES], wants: &mut Wants) -> Euro
     requires { PricedFile words.now l tables.now }
     ensures { Summed (UnitFree (problem_of words.now) (price_in tables.now)) (problem_of words.now).units result.0
         × (result.0 ≤ MOST_FREE) }
@@ -41,19 +36,14 @@ fn units_sum(
     let mut sum = Euro(0);
     for i in 0..units {
         let least = unit::free_unit(words, l, tables, i);
-        wants[LEAST_STARTS + i] = least.start;
+        wants.starts[i] = least.start;
         sum = sum.plus(least.price);
     }
     sum
 }
 
 // What all weeks come to at least; the units that each wants out are written.
-fn weeks_sum(
-    words: &[u32],
-    l: Layout,
-    tables: &[u32; TABLES],
-    wants: &mut [u32; WANT_WORDS],
-) -> Euro
+fn weeks_sum(words: &[u32], l: Layout, tables: &[u32; TABLES], wants: &mut Wants) -> Euro
     requires { PricedFile words.now l tables.now }
     ensures { Summed (WeekFree (problem_of words.now) (price_in tables.now)) (problem_of words.now).weeks result.0
         × (result.0 ≤ MOST_FREE) }
@@ -62,7 +52,7 @@ fn weeks_sum(
     let mut sum = Euro(0);
     for t in 0..weeks {
         let least = week::free_week(words, l, tables, t);
-        wants[t] = least.out;
+        wants.out[t] = least.out;
         sum = sum.plus(least.value);
     }
     sum
@@ -97,12 +87,7 @@ fn all_prices(words: &[u32], l: Layout, tables: &[u32; TABLES]) -> Euro
 // ---- the test
 
 // Whether these prices show that there is no schedule: overhauls and weeks come to more than all of them. What units and weeks want is written.
-pub fn shows_none(
-    words: &[u32],
-    l: Layout,
-    tables: &[u32; TABLES],
-    wants: &mut [u32; WANT_WORDS],
-) -> bool
+pub fn shows_none(words: &[u32], l: Layout, tables: &[u32; TABLES], wants: &mut Wants) -> bool
     requires { PricedFile words.now l tables.now }
     ensures { ShowsNone (problem_of words.now) result }
 {

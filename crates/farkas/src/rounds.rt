@@ -11,7 +11,7 @@ use crate::fixed::{Pricing, fixed_prices};
 use crate::shows_none;
 use instance::Euro;
 use model::Layout;
-use prices::{LEVEL, PLACES, WANT_WORDS};
+use prices::{LEVEL, PLACES, Wants};
 use tables::{MOST_PRICE, TABLES};
 
 // The most rounds, for each unit of the file.
@@ -38,10 +38,7 @@ fn raised(price: u64, by: u64) -> u64
     requires { (price ≤ MOST_PRICE) × (by ≤ MOST_PRICE + 1) }
     ensures { result ≤ MOST_PRICE }
 {
-    if MOST_PRICE < price + by {
-        return MOST_PRICE;
-    }
-    price + by
+    (price + by).min(MOST_PRICE)
 }
 
 fn lowered(price: u64, by: u64) -> u64
@@ -107,7 +104,7 @@ fn run_round(
     shorter: u64,
     tables: &mut [u32; TABLES],
     push: &mut [u32; PLACES],
-    wants: &mut [u32; WANT_WORDS],
+    wants: &mut Wants,
 ) -> bool
     requires { PricedFile words.now l tables.old × AtMost MOST_PUSH push.old × (0 < shorter) }
     ensures ranges { PricedFile words.now l tables.new × AtMost MOST_PUSH push.new }
@@ -124,7 +121,7 @@ pub fn rounds_none(words: &[u32], l: Layout, tables: &[u32; TABLES]) -> bool
     ensures { ShowsNone (problem_of words.now) result }
 {
     let most = l.units * ROUNDS;
-    let mut wants: [u32; WANT_WORDS] = [0; WANT_WORDS];
+    let mut wants = Wants::NONE;
     let mut push: [u32; PLACES] = [LEVEL; PLACES];
     let mut next = fixed_prices(words, l, tables, Pricing::Sometimes);
     if shows_none(words, l, &next, &mut wants) {

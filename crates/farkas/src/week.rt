@@ -8,7 +8,7 @@ ghost use Rattle.model.specs.Words.{problem_of};
 ghost use Rattle.blame.specs.Free.{WeekFree};
 ghost use Rattle.instance.specs.Filed.{Filed};
 ghost use Rattle.tables.specs.Tables.{MOST_PRICE, MOST_WEEK_PRICES, price_in};
-ghost use Rattle.farkas.specs.Choices.{NEVER, TOP, CAPS, NO_WEEK, NeverTo, NeverDue, OpenPrice, LargerOf, UnitAdded, SumsDue, AtRoot, FreeAt, Savable, NodeDue, NodeAt, TryAt, StayDue, NodeFloor, NodeDone, ended_at, Seen, Stays, Leaves, OutTried};
+ghost use Rattle.farkas.specs.Choices.{NEVER, TOP, CAPS, NO_WEEK, NeverTo, NeverDue, OpenPrice, UnitAdded, SumsDue, AtRoot, FreeAt, Savable, NodeDue, NodeAt, TryAt, StayDue, NodeFloor, NodeDone, Seen, Stays, Leaves, OutTried};
 
 use instance::{Euro, Kilo};
 use model::Layout;
@@ -50,11 +50,11 @@ pub struct FreeWeek {
     pub fuel: u32,
 }
 
-// What is seen of a node: that it is done with, and what is known then.
+// What is known once a node has been looked at: it is done with, or its highest unit is still to be decided.
 #[derive(Clone, Copy)]
-struct Looked {
-    done: bool,
-    found: FreeWeek,
+enum Looked {
+    Done(FreeWeek),
+    Open(FreeWeek),
 }
 
 // ---- the sums
@@ -110,16 +110,6 @@ fn open_price(never: u64, i: usize, price: Euro) -> u64
     price.0
 }
 
-// The larger of two.
-fn larger(a: u64, b: u64) -> u64
-    ensures { LargerOf a b result }
-{
-    if a < b {
-        return b;
-    }
-    a
-}
-
 // The sums over the units up to one.
 #[derive(Clone, Copy)]
 struct SumsWith {
@@ -150,7 +140,7 @@ fn sums_with(
     SumsWith {
         prices: prices + price.0,
         saved: opens + open,
-        top: larger(sums[TOP + i], open),
+        top: sums[TOP + i].max(open),
         caps: caps + given.0,
     }
 }
@@ -196,12 +186,10 @@ fn root_node(words: &[u32], l: Layout, t: usize, sums: &[u64; SUMS]) -> FreeNode
     requires { Filed words.now l × (t < l.weeks) × (entry sums.now NEVER < 4294967296) }
     ensures { AtRoot (problem_of words.now) t sums.now result }
 {
-    let need = instance::demand(words, l, t);
-    let crews = instance::crews(words, l) as u64;
     FreeNode {
         week: t,
-        need,
-        crews,
+        need: instance::demand(words, l, t),
+        crews: instance::crews(words, l) as u64,
         bar: sums[NEVER] as u32,
         out: 0,
         score: Euro(0),
@@ -229,13 +217,8 @@ fn savable(sums: &[u64; SUMS], k: usize, crews: u64) -> u64
     requires { (k < 17) × (crews ≤ 16) × (entry sums.now (TOP + k) ≤ MOST_PRICE) }
     ensures { Savable sums.now k crews result }
 {
-    let open = sum_at(sums, OPEN, k);
-    let top = sum_at(sums, TOP, k);
-    let most = crews * top;
-    if open < most {
-        return open;
-    }
-    most
+    let most = crews * sum_at(sums, TOP, k);
+    sum_at(sums, OPEN, k).min(most)
 }
 
 // What a node comes to at least.
@@ -255,16 +238,6 @@ fn bound(
     y.score.plus(Euro(all)).less(Euro(saved))
 }
 
-// A node with the least so far, done with.
-fn ended(value: Euro, out: u32, fuel: u32) -> Looked
-    ensures { result ≡ ended_at value out fuel }
-{
-    Looked {
-        done: true,
-        found: FreeWeek { value, out, fuel },
-    }
-}
-
 // A node before its highest unit is decided. It is done with where the capacities left fall short, where it cannot come below the least, where no
 // unit or no crew is left, and where the fuel is spent: then it counts as what it comes to at least.
 fn look(
@@ -279,32 +252,28 @@ fn look(
     requires { NodeDue words.now l tables.now sums.now k y }
     ensures { Seen (problem_of words.now) tables.now k y low result }
 {
-    let least = low.value;
     let caps = sum_at(sums, CAPS, k);
     if caps < y.need.0 {
-        return ended(least, low.out, low.fuel);
+        return Looked::Done(low);
     }
     let value = bound(words, l, tables, sums, k, y);
-    if least.0 <= value.0 {
-        return ended(least, low.out, low.fuel);
+    if low.value.0 <= value.0 {
+        return Looked::Done(low);
     }
-    if k == 0 {
-        return ended(value, y.out, low.fuel);
-    }
-    if y.crews == 0 {
-        return ended(value, y.out, low.fuel);
+    if k == 0 || y.crews == 0 {
+        return Looked::Done(FreeWeek {
+            value,
+            out: y.out,
+            ..low
+        });
     }
     if low.fuel == 0 {
-        return ended(value, low.out, 0);
+        return Looked::Done(FreeWeek { value, ..low });
     }
-    Looked {
-        done: false,
-        found: FreeWeek {
-            value: least,
-            out: low.out,
-            fuel: low.fuel - 1,
-        },
-    }
+    Looked::Open(FreeWeek {
+        fuel: low.fuel - 1,
+        ..low
+    })
 }
 
 // The node with unit i staying.
@@ -312,18 +281,12 @@ fn stay(words: &[u32], l: Layout, tables: &[u32; TABLES], i: usize, y: FreeNode)
     requires { StayDue words.now l tables.now i y }
     ensures { Stays (problem_of words.now) tables.now i y result }
 {
-    let week = y.week;
-    let given = instance::capacity(words, l, week, i);
-    let price = tables::price(tables, week, i);
-    let need = y.need.less(given);
-    let score = y.score.plus(price);
+    let given = instance::capacity(words, l, y.week, i);
+    let price = tables::price(tables, y.week, i);
     FreeNode {
-        week,
-        need,
-        crews: y.crews,
-        bar: y.bar,
-        out: y.out,
-        score,
+        need: y.need.less(given),
+        score: y.score.plus(price),
+        ..y
     }
 }
 
@@ -332,17 +295,12 @@ fn leave(words: &[u32], l: Layout, tables: &[u32; TABLES], i: usize, y: FreeNode
     requires { FreeAt words.now l tables.now y.week × (i < l.units) × (0 < y.crews) }
     ensures { Leaves (problem_of words.now) i y result }
 {
-    let need = y.need;
-    let score = y.score;
     let bar = sets::union(y.bar, tables::partners(tables, i));
-    let out = sets::with(y.out, i);
     FreeNode {
-        week: y.week,
-        need,
         crews: y.crews - 1,
         bar,
-        out,
-        score,
+        out: sets::with(y.out, i),
+        ..y
     }
 }
 
@@ -369,15 +327,8 @@ fn try_out(
     if price.0 == 0 {
         return low;
     }
-    walk(
-        words,
-        l,
-        tables,
-        sums,
-        i,
-        leave(words, l, tables, i, y),
-        low,
-    )
+    let z = leave(words, l, tables, i, y);
+    walk(words, l, tables, sums, i, z, low)
 }
 
 // The least so far, or less, after all choices for the units below k.
@@ -394,22 +345,15 @@ fn walk(
     requires { NodeAt words.now l tables.now sums.now k y }
     ensures { NodeDone (problem_of words.now) tables.now k y low result }
 {
-    let seen = look(words, l, tables, sums, k, y, low);
-    let found = seen.found;
-    if seen.done {
-        return found;
+    match look(words, l, tables, sums, k, y, low) {
+        Looked::Done(found) => found,
+        Looked::Open(found) => {
+            let i = k - 1;
+            let less = try_out(words, l, tables, sums, i, y, found);
+            let z = stay(words, l, tables, i, y);
+            walk(words, l, tables, sums, i, z, less)
+        }
     }
-    let i = k - 1;
-    let less = try_out(words, l, tables, sums, i, y, found);
-    walk(
-        words,
-        l,
-        tables,
-        sums,
-        i,
-        stay(words, l, tables, i, y),
-        less,
-    )
 }
 
 // What the prices of the units not out of week t come to at least, whoever may be out; the set is advice.

@@ -2,12 +2,11 @@
 -- Assumes nothing.
 use Prim.Native.Nat.{ℕ, ◌+◌, ◌*◌, ◌/◌, ◌-◌, ◌≤◌, ◌<◌}
 use mathlib.Core.Path.{◌≡◌, refl, ◌∙◌}
-use mathlib.Core.Bool.{false}
 use mathlib.Core.List.{List}
 use mathlib.Core.Logic.{◌⊎◌, inl, inr}
 use native.Mathlib.Nat.{le_trans, mul-le-mul_left, mul-le-mul_right, div-le_self}
 use native.Mathlib.Omega.{arith}
-use lib.Dec.{ltb}
+use lib.Dec.{ltb, leb}
 use lib.ListN.{length, get_or, set, length-set}
 use lib.Seq.{get_or-set_other}
 use mir.Syntax.{w64}
@@ -21,7 +20,6 @@ use Rattle.instance.specs.Filed.{Filed}
 use Rattle.overhaul.specs.Range.{last_start}
 use Rattle.tables.specs.Tables.{PARTNERS, OFFS, HARD_WEEKS, TABLES, MOST_PRICE, partners_in, off_in, Prices, First, Priced, Begins}
 use Rattle.tables.proofs.TableLaws.{first_priced, prices_put, begins_put, begins_priced}
-use Rattle.relaxation.specs.Relaxed.{WeekAt}
 use Rattle.prices.specs.Ranges.{LEVEL, MOST_PUSH, MOST_SQUARE, MOST_AIM, REACH, MOST_STEP, STEP_SCALE, MOST_CHANGE, PricedFile, Moved, OneOf}
 
 -- ---- prices
@@ -86,10 +84,6 @@ priced_either ws l xs ys zs a b h = by h.either
 pub priced_chosen : (ws : List ℕ) (l : Layout) (xs ys zs : List ℕ) → PricedFile ws l xs → PricedFile ws l ys → OneOf xs ys zs → Priced (problem_of ws) zs
 priced_chosen ws l xs ys zs a b h = (priced_either ws l xs ys zs a b h).priced
 
--- a week at such prices
-pub priced_week_lem : (ws : List ℕ) (l : Layout) (xs : List ℕ) (t : ℕ) → PricedFile ws l xs → t < l.weeks → WeekAt ws l xs t
-priced_week_lem ws l xs t h week = record { filed = h.filed; week = week; priced = h.priced }
-
 -- ---- pushes
 
 -- a push read
@@ -142,9 +136,9 @@ pub first_ends : (ws : List ℕ) (l : Layout) (i first last d : ℕ) → Filed w
 first_ends ws l i first last d f e ed h a b = omega (arith, last_ends ws l i last d f e ed h)
 
 -- a week before it
-pub span_before : (s d t : ℕ) → t + 1 < s → false ≡ in_span s d t
+pub span_before : (s d t : ℕ) → t + 1 < s → leb s (t + 1) ≡ in_span s d t
 unfolding in_span
-span_before s d t h = rw (lt-leb s (t + 1) h)
+span_before s d t h = rw (lt-leb s (t + 1) h) refl
 
 -- and one from its start on
 pub span_after : (s d t : ℕ) → s ≤ t + 1 → ltb (t + 1) (s + d) ≡ in_span s d t

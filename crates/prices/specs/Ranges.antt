@@ -7,9 +7,9 @@ use Rattle.instance.specs.Filed.{Filed}
 use Rattle.tables.specs.Tables.{PARTNERS, Prices, Priced}
 use Rattle.prices.specs.declared.step.Progress.{Progress}
 
--- what is given as a bound where there is none
-abbrev pub NO_BOUND : ℕ
-NO_BOUND = 1099511627776
+-- a bound is less than this: 2 ^ 40
+abbrev pub MOST_BOUND : ℕ
+MOST_BOUND = 1099511627776
 
 -- a place for each week and unit
 abbrev pub PLACES : ℕ
@@ -59,13 +59,13 @@ MOST_CHANGE = 8796093022208
 abbrev pub PATIENCE : ℕ
 PATIENCE = 6
 
--- the most rounds of a file
-abbrev pub MOST_ROUNDS : ℕ
-MOST_ROUNDS = 256
-
 -- what the overhaul of a unit costs at most from its first permitted start, its prices included, with OFF in all other weeks
 abbrev pub MOST_FIRST_COST : ℕ
 MOST_FIRST_COST = 8589934592
+
+-- what it costs at most from any start: 2 ^ 34
+abbrev pub MOST_UNIT_COST : ℕ
+MOST_UNIT_COST = 17179869184
 
 -- a file, and a table with its partners and OFF costs, and prices in their range
 pub record PricedFile (ws : List ℕ) (l : Layout) (xs : List ℕ) : Type 0 where
@@ -80,7 +80,7 @@ pub record Moved (xs ys : List ℕ) : Type 0 where
 
 -- there are bounds, that of the prices at hand is not above the best, and steps reach no further than at first
 pub record ProgressInRange (s : Progress) : Type 0 where
-  pub best : s.best < NO_BOUND
+  pub best : s.best < MOST_BOUND
   pub at : s.at ≤ s.best
   pub reach : s.reach ≤ REACH
   pub idle : s.idle < PATIENCE

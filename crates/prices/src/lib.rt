@@ -5,27 +5,26 @@
 // rounds: start at `find_prices`.
 #![tactic(auto)]
 
-ghost use Rattle.std.specs.Prelude.{◌<◌};
+ghost use Rattle.std.specs.Prelude.{◌<◌, IfSome};
 ghost use Rattle.sums.specs.Table.{AtMost};
 ghost use Rattle.model.specs.Words.{problem_of};
 ghost use Rattle.instance.specs.Filed.{Filed};
 ghost use Rattle.memo.specs.Memo.{Right, Others};
 ghost use Rattle.tables.specs.Tables.{First, Priced};
-ghost use Rattle.prices.specs.Ranges.{NO_BOUND, MOST_PUSH, PricedFile, ProgressInRange, OneOf};
+ghost use Rattle.prices.specs.Ranges.{MOST_BOUND, MOST_PUSH, PricedFile, ProgressInRange, OneOf};
 
+use effort::Work;
 use model::Layout;
 pub use momentum::{LEVEL, PLACES, magnitude, push_at, update_momentum};
 use step::Progress;
 use tables::TABLES;
-pub use wants::{LEAST_STARTS, WANT_WORDS};
+pub use wants::Wants;
 
 mod effort;
 mod momentum;
 mod step;
 mod wants;
 
-// What is given as a bound where there is none.
-const NO_BOUND: u64 = 1099511627776;
 // The most rounds, for each unit of the file.
 const ROUNDS: usize = 16;
 // So many rounds in a row without a gain make steps shorter by half.
@@ -42,21 +41,24 @@ fn run_round(
     s: Progress,
     tables: &mut [u32; TABLES],
     push: &mut [u32; PLACES],
-    wants: &mut [u32; WANT_WORDS],
+    wants: &mut Wants,
+    work: &mut Work,
     memo: &mut [u32],
-) -> u64
+) -> Option<u64>
     requires { PricedFile words.now l tables.old × AtMost MOST_PUSH push.old × ProgressInRange s × Right (problem_of words.now) memo.old }
+    ensures bound { IfSome result (λ root. root < MOST_BOUND) }
     ensures ranges { PricedFile words.now l tables.new × AtMost MOST_PUSH push.new }
     ensures right { Right (problem_of words.now) memo.new × Others memo.old memo.new }
 {
     momentum::update_momentum(words, l, wants, push);
     let norm = momentum::squared_norm(l, push);
     if norm == 0 {
-        return NO_BOUND;
+        return None;
     }
     let step = step::step_of(s, norm);
     step::move_prices(l, step, push, tables);
-    wants::solve_relaxation(words, l, tables, wants, memo).0
+    let root = wants::solve_relaxation(words, l, tables, wants, work, memo)?;
+    Some(root.0)
 }
 
 // After a round keeps a gain; too many rounds without one go back to the best prices, and steps are shorter.
@@ -65,60 +67,60 @@ fn keep_or_restart(
     s: Progress,
     tables: &mut [u32; TABLES],
     push: &mut [u32; PLACES],
-    wants: &mut [u32; WANT_WORDS],
+    wants: &mut Wants,
     best: &mut [u32; TABLES],
+    kept: &mut Wants,
 ) -> Progress
-    requires { (root < NO_BOUND) × ProgressInRange s × AtMost MOST_PUSH push.old }
+    requires { (root < MOST_BOUND) × ProgressInRange s × AtMost MOST_PUSH push.old }
     ensures ranges { ProgressInRange result × AtMost MOST_PUSH push.new }
     ensures chosen { OneOf tables.old best.old tables.new
         × OneOf tables.old best.old best.new }
 {
     if s.best < root {
         *best = *tables;
-        wants::keep_wants(wants);
+        *kept = *wants;
         return Progress {
             best: root,
             at: root,
-            reach: s.reach,
             idle: 0,
+            ..s
         };
     }
     let idle = s.idle + 1;
     if idle < PATIENCE {
         return Progress {
-            best: s.best,
             at: root,
-            reach: s.reach,
             idle,
+            ..s
         };
     }
     *tables = *best;
-    wants::restore_wants(wants);
+    *wants = *kept;
     *push = [LEVEL; PLACES];
     Progress {
-        best: s.best,
         at: s.best,
         reach: s.reach / 2,
         idle: 0,
+        ..s
     }
 }
 
-// The prices of the best of the rounds, from a table at whose prices the bound and what units and weeks want are these; the wants have what the rounds
-// needed.
+// The prices of the best of the rounds, from a table at whose prices the bound and what units and weeks want are these; what the rounds needed is noted.
 fn ascend(
     words: &[u32],
     l: Layout,
     first: &[u32; TABLES],
     root: u64,
-    wants: &mut [u32; WANT_WORDS],
+    wants: &mut Wants,
+    work: &mut Work,
     memo: &mut [u32],
 ) -> [u32; TABLES]
-    requires { PricedFile words.now l first.now × (root < NO_BOUND) × Right (problem_of words.now) memo.old }
+    requires { PricedFile words.now l first.now × (root < MOST_BOUND) × Right (problem_of words.now) memo.old }
     ensures answer { Priced (problem_of words.now) result }
     ensures right { Right (problem_of words.now) memo.new × Others memo.old memo.new }
 {
-    let most = l.units * ROUNDS;
     let mut best = *first;
+    let mut kept = *wants;
     let mut tables = *first;
     let mut push: [u32; PLACES] = [LEVEL; PLACES];
     let mut s = Progress {
@@ -128,14 +130,13 @@ fn ascend(
         idle: 0,
     };
     // Each time round, `s` has the bound at the prices of `best`, the highest so far, and that at the prices of `tables`, at which `wants` is wanted.
-    for n in 0..most {
-        let root = run_round(words, l, s, &mut tables, &mut push, wants, memo);
-        if NO_BOUND <= root {
-            return best;
-        }
-        s = keep_or_restart(root, s, &mut tables, &mut push, wants, &mut best);
+    for _ in 0..l.units * ROUNDS {
+        let Some(root) = run_round(words, l, s, &mut tables, &mut push, wants, work, memo) else {
+            break;
+        };
+        s = keep_or_restart(root, s, &mut tables, &mut push, wants, &mut best, &mut kept);
         if s.reach < LEAST_REACH {
-            return best;
+            break;
         }
     }
     best
@@ -154,12 +155,14 @@ pub fn find_prices(
     ensures answer { Priced (problem_of words.now) result }
     ensures right { Right (problem_of words.now) memo.new × Others memo.old memo.new }
 {
-    let mut wants: [u32; WANT_WORDS] = [0; WANT_WORDS];
-    let root = wants::solve_relaxation(words, l, first, &mut wants, memo).0;
-    if NO_BOUND <= root {
+    let mut wants = Wants::NONE;
+    let mut work = Work {
+        hard: [false; 52],
+        nodes: 0,
+    };
+    let Some(root) = wants::solve_relaxation(words, l, first, &mut wants, &mut work, memo) else {
         return *first;
-    }
-    wants::keep_wants(&mut wants);
-    let best = ascend(words, l, first, root, &mut wants, memo);
-    effort::with_hard_weeks(best, &wants)
+    };
+    let best = ascend(words, l, first, root.0, &mut wants, &mut work, memo);
+    effort::with_hard_weeks(best, &work)
 }

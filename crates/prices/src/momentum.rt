@@ -6,8 +6,7 @@ ghost use Rattle.model.specs.Schedule.{in_span};
 ghost use Rattle.instance.specs.Filed.{Filed};
 ghost use Rattle.prices.specs.Ranges.{PLACES, LEVEL, ROUND_PUSH, MOST_PUSH, MOST_SQUARE, MOST_NORM};
 
-use crate::wants;
-use crate::wants::WANT_WORDS;
+use crate::wants::Wants;
 use model::Layout;
 
 // A push for each price: 52 weeks of 16 units.
@@ -33,20 +32,14 @@ fn in_overhaul(start: u32, duration: usize, t: usize) -> bool
     ensures { result ≡ in_span start duration t }
 {
     let first = start as usize;
-    if t + 1 < first {
-        return false;
-    }
-    t + 1 < first + duration
+    first <= t + 1 && t + 1 < first + duration
 }
 
 // The push of a round, where there is one.
 fn push_of(yes: bool) -> u32
     ensures { result ≤ ROUND_PUSH }
 {
-    if yes {
-        return ROUND_PUSH;
-    }
-    0
+    if yes { ROUND_PUSH } else { 0 }
 }
 
 // A push a round on: three quarters as before, and up or down.
@@ -58,39 +51,26 @@ fn next_push(push: u32, up: u32, down: u32) -> u32
 }
 
 // Updates the pushes of unit i: up where its least start has it out, down where the week wants it out.
-fn update_unit(
-    words: &[u32],
-    l: Layout,
-    wants: &[u32; WANT_WORDS],
-    i: usize,
-    push: &mut [u32; PLACES],
-)
+fn update_unit(words: &[u32], l: Layout, wants: &Wants, i: usize, push: &mut [u32; PLACES])
     requires { Filed words.now l × (i < l.units) × AtMost MOST_PUSH push.old }
     ensures { AtMost MOST_PUSH push.new }
 {
-    let start = wants::wanted_start(wants, i);
+    let start = wants.starts[i];
     let duration = instance::duration(words, l, i);
-    let weeks = l.weeks;
-    for t in 0..weeks {
+    for t in 0..l.weeks {
         let up = push_of(in_overhaul(start, duration, t));
-        let down = push_of(sets::has(wants::wanted_out(wants, t), i));
+        let down = push_of(sets::has(wants.out[t], i));
         let place = t * 16 + i;
         push[place] = next_push(push_at(push, place), up, down);
     }
 }
 
 // Updates the pushes of all units.
-pub fn update_momentum(
-    words: &[u32],
-    l: Layout,
-    wants: &[u32; WANT_WORDS],
-    push: &mut [u32; PLACES],
-)
+pub fn update_momentum(words: &[u32], l: Layout, wants: &Wants, push: &mut [u32; PLACES])
     requires { Filed words.now l × AtMost MOST_PUSH push.old }
     ensures { AtMost MOST_PUSH push.new }
 {
-    let units = l.units;
-    for i in 0..units {
+    for i in 0..l.units {
         update_unit(words, l, wants, i, push);
     }
 }
@@ -100,10 +80,7 @@ pub fn magnitude(push: u32) -> u64
     requires { push ≤ MOST_PUSH }
     ensures { result ≤ LEVEL }
 {
-    if push < LEVEL {
-        return (LEVEL - push) as u64;
-    }
-    (push - LEVEL) as u64
+    push.abs_diff(LEVEL) as u64
 }
 
 // The square of that.
@@ -120,9 +97,8 @@ pub fn squared_norm(l: Layout, push: &[u32; PLACES]) -> u64
     requires { (l.weeks ≤ 52) × AtMost MOST_PUSH push.now }
     ensures { result ≤ MOST_NORM }
 {
-    let used = l.weeks * 16;
     let mut sum = 0;
-    for k in 0..used {
+    for k in 0..l.weeks * 16 {
         sum += squared_magnitude(push_at(push, k));
     }
     sum / ROUND_PUSH_SQUARED

@@ -49,16 +49,6 @@ fn change(step: u64, magnitude: u64) -> u64
     step * magnitude / STEP_SCALE
 }
 
-// A price up to the highest.
-fn capped(price: u64) -> u64
-    ensures { result ≤ MOST_PRICE }
-{
-    if MOST_PRICE < price {
-        return MOST_PRICE;
-    }
-    price
-}
-
 // A price a step on.
 fn moved(price: Euro, push: u32, step: u64) -> u32
     requires { (price.0 ≤ MOST_PRICE) × (push ≤ MOST_PUSH) × (step ≤ MOST_STEP) }
@@ -67,9 +57,9 @@ fn moved(price: Euro, push: u32, step: u64) -> u32
     let old = price.0;
     let by = change(step, momentum::magnitude(push));
     if push < LEVEL {
-        return words::saturating_sub(old, by) as u32;
+        return old.saturating_sub(by) as u32;
     }
-    capped(old + by) as u32
+    (old + by).min(MOST_PRICE) as u32
 }
 
 // Moves the prices of week t.
@@ -77,8 +67,7 @@ fn move_week(l: Layout, t: usize, step: u64, push: &[u32; PLACES], tables: &mut 
     requires { (l.units ≤ 16) × (t < 52) × (step ≤ MOST_STEP) × AtMost MOST_PUSH push.now × Prices tables.old }
     ensures { Moved tables.old tables.new }
 {
-    let units = l.units;
-    for i in 0..units {
+    for i in 0..l.units {
         let place = t * 16 + i;
         let price = tables::price(tables, t, i);
         tables[place] = moved(price, momentum::push_at(push, place), step);
@@ -90,8 +79,7 @@ pub fn move_prices(l: Layout, step: u64, push: &[u32; PLACES], tables: &mut [u32
     requires { (l.weeks ≤ 52) × (l.units ≤ 16) × (step ≤ MOST_STEP) × AtMost MOST_PUSH push.now × Prices tables.old }
     ensures { Moved tables.old tables.new }
 {
-    let weeks = l.weeks;
-    for t in 0..weeks {
+    for t in 0..l.weeks {
         move_week(l, t, step, push, tables);
     }
 }

@@ -1,66 +1,37 @@
-// What units and weeks want at the prices of a round: a unit the start that costs it least, a week the units out with which its value is least. It
-// stands in one table of words: the units that week t wants out at place t, and from LEAST_STARTS on the least start of each unit; then the same again
-// as it was at the best prices; then what `effort` knows of all rounds.
-ghost use Rattle.std.specs.Prelude.{◌≡◌, ◌+◌, ◌*◌, ◌<◌, ◌≤◌};
+// What units and weeks want at the prices of a round: a unit the start that costs it least, a week the units out with which its value is least.
+ghost use Rattle.std.specs.Prelude.{◌≡◌, IfSome, ◌+◌, ◌*◌, ◌<◌, ◌≤◌};
 ghost use Rattle.model.specs.Words.{problem_of};
+ghost use Rattle.model.specs.Commitment.{NO_RUN};
 ghost use Rattle.memo.specs.Memo.{Right, Others};
 ghost use Rattle.tables.specs.Tables.{MOST_PRICE};
-ghost use Rattle.prices.specs.Ranges.{NO_BOUND, MOST_FIRST_COST, PricedFile};
-ghost use Rattle.prices.specs.Wanted.{out_wanted, start_wanted};
+ghost use Rattle.prices.specs.Ranges.{MOST_BOUND, MOST_FIRST_COST, MOST_UNIT_COST, PricedFile};
 
-use crate::{NO_BOUND, effort};
+use crate::effort;
+use crate::effort::Work;
 use instance::Euro;
 use model::{Layout, NO_RUN};
 use tables::TABLES;
 
-// The words of the table.
-pub const WANT_WORDS: usize = 189;
-// Where the least starts begin.
-pub const LEAST_STARTS: usize = 52;
-// Where what was wanted at the best prices begins.
-const KEPT_WANTS: usize = 68;
-// Where the hard weeks begin: 1 at the place of each.
-pub const HARD_WANTS: usize = 136;
-// Where the nodes used in all rounds stand.
-pub const NODES_USED: usize = 188;
+// The units that each week wants out, and the least start of each unit.
+#[derive(Clone, Copy)]
+pub struct Wants {
+    pub out: [u32; 52],
+    pub starts: [u32; 16],
+}
+
+impl Wants {
+    // Nothing yet.
+    pub const NONE: Wants = Wants {
+        out: [0; 52],
+        starts: [0; 16],
+    };
+}
 
 // A start of a unit, and what it costs, prices and OFF costs included.
 #[derive(Clone, Copy)]
 struct PricedStart {
     cost: Euro,
     start: usize,
-}
-
-// ---- the table
-
-// The units that week t wants out.
-pub fn wanted_out(wants: &[u32; WANT_WORDS], t: usize) -> u32
-    requires { t < 52 }
-    ensures { result ≡ out_wanted wants.now t }
-{
-    wants[t]
-}
-
-// The least start of unit i.
-pub fn wanted_start(wants: &[u32; WANT_WORDS], i: usize) -> u32
-    requires { i < 16 }
-    ensures { result ≡ start_wanted wants.now i }
-{
-    wants[LEAST_STARTS + i]
-}
-
-// Keeps what is wanted now, since prices are the best so far.
-pub fn keep_wants(wants: &mut [u32; WANT_WORDS]) {
-    for k in 0..KEPT_WANTS {
-        wants[KEPT_WANTS + k] = wants[k];
-    }
-}
-
-// Brings back what was wanted at the best prices.
-pub fn restore_wants(wants: &mut [u32; WANT_WORDS]) {
-    for k in 0..KEPT_WANTS {
-        wants[k] = wants[KEPT_WANTS + k];
-    }
 }
 
 // ---- units
@@ -112,30 +83,16 @@ fn first_cost(
     sum
 }
 
-// The cheaper of two starts, the first of equals.
-fn cheaper(least: PricedStart, cost: Euro, start: usize) -> PricedStart
-    requires { (least.cost.0 ≤ NO_BOUND) × (least.start ≤ 52) × (start ≤ 52) }
-    ensures { (result.cost.0 ≤ NO_BOUND) × (result.start ≤ 52) }
-{
-    if cost.0 < least.cost.0 {
-        return PricedStart { cost, start };
-    }
-    least
-}
-
-// The cheapest of unit i's permitted starts, the first of equals; no start and no bound where there is none.
-fn least_start(words: &[u32], l: Layout, tables: &[u32; TABLES], i: usize) -> PricedStart
+// The cheapest of unit i's permitted starts, the first of equals, if there is one.
+fn least_start(words: &[u32], l: Layout, tables: &[u32; TABLES], i: usize) -> Option<PricedStart>
     requires { PricedFile words.now l tables.now × (i < l.units) }
-    ensures { (result.cost.0 ≤ NO_BOUND) × (result.start ≤ 52) }
+    ensures { IfSome result (λ s. (s.cost.0 ≤ MOST_UNIT_COST) × (s.start ≤ 52)) }
 {
     let starts = overhaul::starts_of(words, l, i);
     let start = starts.first;
     let last = starts.last;
     if last < start {
-        return PricedStart {
-            cost: Euro(NO_BOUND),
-            start: 0,
-        };
+        return None;
     }
     let duration = instance::duration(words, l, i);
     let mut cost = first_cost(words, l, tables, i, start - 1, duration);
@@ -148,83 +105,79 @@ fn least_start(words: &[u32], l: Layout, tables: &[u32; TABLES], i: usize) -> Pr
         let gone = swap_cost(words, l, tables, i, old, new);
         let come = swap_cost(words, l, tables, i, new, old);
         cost = cost.plus(come).less(gone);
-        least = cheaper(least, cost, s + 1);
+        if cost.0 < least.cost.0 {
+            least = PricedStart { cost, start: s + 1 };
+        }
     }
-    least
+    Some(least)
 }
 
-// What all units cost at least; their least starts are written.
+// What all units cost at least, if each has a permitted start; their least starts are written.
 fn choose_starts(
     words: &[u32],
     l: Layout,
     tables: &[u32; TABLES],
-    wants: &mut [u32; WANT_WORDS],
-) -> Euro
+    wants: &mut Wants,
+) -> Option<Euro>
     requires { PricedFile words.now l tables.now }
-    ensures { result.0 ≤ 16 * NO_BOUND }
+    ensures { IfSome result (λ sum. sum.0 ≤ 16 * MOST_UNIT_COST) }
 {
-    let units = l.units;
     let mut sum = Euro(0);
-    for i in 0..units {
-        let least = least_start(words, l, tables, i);
-        wants[LEAST_STARTS + i] = least.start as u32;
+    for i in 0..l.units {
+        let least = least_start(words, l, tables, i)?;
+        wants.starts[i] = least.start as u32;
         sum = sum.plus(least.cost);
     }
-    sum
+    Some(sum)
 }
 
 // ---- weeks
 
-// The value of all weeks, no bound where one has no run; the units that each wants out are written, and what
-// it needed.
+// The value of all weeks, if each has a run; the units that each wants out are written, and what it needed.
 fn choose_weeks(
     words: &[u32],
     l: Layout,
     tables: &[u32; TABLES],
-    wants: &mut [u32; WANT_WORDS],
+    wants: &mut Wants,
+    work: &mut Work,
     memo: &mut [u32],
-) -> Euro
+) -> Option<Euro>
     requires { PricedFile words.now l tables.now × Right (problem_of words.now) memo.old }
-    ensures answer { result.0 ≤ NO_BOUND }
+    ensures answer { IfSome result (λ sum. sum.0 ≤ 52 * NO_RUN) }
     ensures right { Right (problem_of words.now) memo.new × Others memo.old memo.new }
 {
-    let weeks = l.weeks;
     let mut sum = Euro(0);
     // Each time round, the weeks below t have runs, and `sum` is their value.
-    for t in 0..weeks {
-        let effort = effort::effort_of(l, wants, t);
+    for t in 0..l.weeks {
+        let effort = effort::effort_of(l, work, t);
         let choice = relaxation::best_choice(words, l, tables, t, 0, effort, memo);
         if NO_RUN <= choice.value.0 {
-            return Euro(NO_BOUND);
+            return None;
         }
-        effort::note_work(wants, t, effort.sets, choice.sets, choice.nodes);
-        wants[t] = choice.out;
+        effort::note_work(work, t, effort, choice);
+        wants.out[t] = choice.out;
         sum = sum.plus(choice.value);
     }
-    sum
+    Some(sum)
 }
 
 // ---- the bound
 
-// What every schedule costs at least by these prices, if there is a bound: overhauls and weeks, less all OFF costs and prices; what units and weeks
-// want is written.
+// What every schedule costs at least by these prices: overhauls and weeks, less all OFF costs and prices; nothing where a unit has no permitted start
+// or a week no run. What units and weeks want is written.
 pub fn solve_relaxation(
     words: &[u32],
     l: Layout,
     tables: &[u32; TABLES],
-    wants: &mut [u32; WANT_WORDS],
+    wants: &mut Wants,
+    work: &mut Work,
     memo: &mut [u32],
-) -> Euro
+) -> Option<Euro>
     requires { PricedFile words.now l tables.now × Right (problem_of words.now) memo.old }
+    ensures bound { IfSome result (λ root. root.0 < MOST_BOUND) }
     ensures right { Right (problem_of words.now) memo.new × Others memo.old memo.new }
 {
-    let units = choose_starts(words, l, tables, wants);
-    if NO_BOUND <= units.0 {
-        return Euro(NO_BOUND);
-    }
-    let weeks = choose_weeks(words, l, tables, wants, memo);
-    if NO_BOUND <= weeks.0 {
-        return Euro(NO_BOUND);
-    }
-    units.plus(weeks).less(tables::sum_total(l, tables))
+    let units = choose_starts(words, l, tables, wants)?;
+    let weeks = choose_weeks(words, l, tables, wants, work, memo)?;
+    Some(units.plus(weeks).less(tables::sum_total(l, tables)))
 }

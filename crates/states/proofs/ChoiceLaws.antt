@@ -1,6 +1,6 @@
 -- Lower bounds of what choices of states cost: at a rate and a price, from the states of the highest place, and where nothing is left.
 -- Assumes nothing.
-use Prim.Native.Nat.{ℕ, zero, suc, ◌+◌, ◌-◌, ◌*◌, ◌≤◌, ◌<◌}
+use Prim.Native.Nat.{ℕ, zero, suc, min, max, ◌+◌, ◌-◌, ◌*◌, ◌≤◌, ◌<◌}
 use mathlib.Core.Path.{◌≡◌, refl}
 use mathlib.Core.Bool.{Bool, true, false}
 use native.Mathlib.Nat.{mul-le-mul_left, mul-add}
@@ -9,22 +9,22 @@ use Rattle.sums.specs.Logic.{if}
 use Rattle.sums.specs.Sum.{sum_to}
 use Rattle.sums.specs.NumSet.{NumSet}
 use Rattle.states.specs.Choices.{Places, PlaceStates, given, paid, gone, gives, pays, goes, ChoiceFloor}
-use Rattle.states.specs.Choices.{lesser, greater, idle, gain, flat}
+use Rattle.states.specs.Choices.{idle, gain, flat}
 use Rattle.states.specs.declared.PlaceState.{PlaceState}
 use Rattle.states.specs.declared.PlaceState.TheVariants.{On, Off, Out}
 
 -- ---- one place
 
 pub idle_off : (p : Places) (price i : ℕ) → idle p price i ≤ p.off i
-unfolding idle lesser
+unfolding idle
 idle_off p price i = by (p.shut i)
   where
-    by : (b : Bool) → if b (p.off i) (p.off i - (p.off i - (price + p.out i))) ≤ p.off i
+    by : (b : Bool) → if b (p.off i) (min (p.off i) (price + p.out i)) ≤ p.off i
     by true = omega arith
     by false = omega arith
 
 idle_out : (p : Places) (price i : ℕ) → p.shut i ≡ false → idle p price i ≤ price + p.out i
-unfolding idle lesser
+unfolding idle
 idle_out p price i e = rw e (omega arith)
 
 gain_on : (p : Places) (rate price i : ℕ) → rate * p.cap i + idle p price i ≤ p.on i + gain p rate price i
@@ -32,11 +32,11 @@ unfolding gain
 gain_on p rate price i = omega arith
 
 pub flat_on : (p : Places) (price i : ℕ) → flat p price i ≤ p.on i
-unfolding flat lesser
+unfolding flat
 flat_on p price i = omega arith
 
 flat_idle : (p : Places) (price i : ℕ) → flat p price i ≤ idle p price i
-unfolding flat lesser
+unfolding flat
 flat_idle p price i = omega arith
 
 rate_line : (p : Places) (rate price i : ℕ) (st : PlaceState) → (st ≡ Out → p.shut i ≡ false)
@@ -100,7 +100,6 @@ module _ (p : Places) (k need crews : ℕ) (bar : NumSet) (score : ℕ) where
   pub floor_score : ChoiceFloor p k need crews bar score score
   floor_score = record { below = λ s c. omega arith }
 
-  pub floor_greater : (v w r : ℕ) → ChoiceFloor p k need crews bar score v → ChoiceFloor p k need crews bar score w → r ≡ greater v w
+  pub floor_greater : (v w r : ℕ) → ChoiceFloor p k need crews bar score v → ChoiceFloor p k need crews bar score w → r ≡ max v w
       → ChoiceFloor p k need crews bar score r
-  unfolding greater
   floor_greater v w r f g e = record { below = λ s c. omega (arith, f.below s c, g.below s c, e) }

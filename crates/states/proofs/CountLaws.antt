@@ -2,22 +2,24 @@
 -- Assumes nothing.
 use Prim.Native.Nat.{ℕ, zero, suc, ◌+◌, ◌-◌, ◌*◌, ◌≤◌, ◌<◌}
 use mathlib.Core.Path.{◌≡◌, refl, subst}
-use mathlib.Core.List.{List}
+use mathlib.Core.List.{List, []}
 use native.Mathlib.Nat.{mul-le-mul_left}
 use native.Mathlib.Decide.{dec_lt}
 use native.Mathlib.Omega.{arith}
+use lib.ListN.{get_or}
 use Rattle.sums.specs.Sum.{sum_to}
 use Rattle.sums.specs.NumSet.{NumSet}
 use Rattle.sums.proofs.SumLaws.{sum_same}
-use Rattle.states.specs.Choices.{Places, PlaceStates, given, paid, gives, pays, StateChoice, ChoiceFloor, counted, greater, top_of, idle, gain}
-use Rattle.states.specs.SearchTables.{SearchTables, OnsShort, sum_in, places_of, COUNTED_IDLE, COUNTED_GAIN, TOPS}
+use Rattle.states.specs.Choices.{Places, PlaceStates, given, paid, gives, pays, StateChoice, ChoiceFloor, counted, top_of, idle, gain}
+use Rattle.states.specs.SearchTables.{SearchTables, OnsShort, places_of}
+use Rattle.states.specs.declared.Costs.{Costs}
+use Rattle.states.specs.declared.Sums.{Sums}
 use Rattle.states.specs.SearchTables.{MOST_COST, MOST_COST_SUM, MOST_GAIN, MOST_GAIN_SUM, MOST_NEED}
 use Rattle.states.specs.declared.PlaceState.{PlaceState}
 use Rattle.states.specs.declared.PlaceState.TheVariants.{On, Off, Out}
 use Rattle.states.specs.declared.Advice.{Advice}
 use Rattle.states.proofs.ChoiceLaws.{rate_sum, idle_off}
-use Rattle.states.proofs.RangeLaws.{offs_most, sum_most, gain_most}
-use Rattle.states.proofs.TableLaws.{unit_idles, unit_gains}
+use Rattle.states.proofs.RangeLaws.{sum_most, gain_most}
 
 -- ---- what any j of the places below k give at most
 
@@ -27,17 +29,17 @@ top_none cap zero = refl
 top_none cap (suc k) = refl
 
 top_first : (cap : ℕ → ℕ) (k j : ℕ) → top_of cap k j ≤ top_of cap (suc k) j
-unfolding top_of greater
+unfolding top_of
 top_first cap k zero = omega (arith, top_none cap k)
 top_first cap k (suc j) = omega arith
 
 top_second : (cap : ℕ → ℕ) (k j : ℕ) → top_of cap k j + cap k ≤ top_of cap (suc k) (suc j)
-unfolding top_of greater
+unfolding top_of
 top_second cap k j = omega arith
 
 -- of more places no less
 top_step : (cap : ℕ → ℕ) (k j : ℕ) → top_of cap k j ≤ top_of cap k (suc j)
-unfolding top_of greater
+unfolding top_of
 top_step cap zero j = omega arith
 top_step cap (suc k) zero = omega arith
 top_step cap (suc k) (suc j) = omega (arith, top_step cap k (suc j), top_step cap k j)
@@ -115,38 +117,28 @@ floor_count p k need crews bar score rate price j r t e = record { below = λ s 
 
 -- ---- from the table
 
-module _ (xs ys : List ℕ) (a : Advice) (y : SearchTables xs ys a) (k : ℕ) (l : k ≤ 16) where
-  pub unit_idle_under : (r : ℕ) → r ≡ sum_in ys COUNTED_IDLE k → r ≤ MOST_COST_SUM
-  unit_idle_under r e =
-      let p = counted (places_of xs a.shut) in
-      let each : (i : ℕ) → i < 16 → idle p a.fee i ≤ MOST_COST = λ i m. omega (arith, idle_off p a.fee i, offs_most xs y.costs i m) in
-      omega (arith, e, unit_idles xs ys a y k l, sum_most (idle p a.fee) MOST_COST k each l)
+module _ (c : Costs) (s : Sums) (a : Advice) (t : SearchTables c s a) (k : ℕ) (l : k ≤ 16) where
+  abbrev p : Places
+  p = counted (places_of c a.shut)
 
-  pub unit_gain_under : (r : ℕ) → r ≡ sum_in ys COUNTED_GAIN k → r ≤ MOST_GAIN_SUM
-  unit_gain_under r e =
-      let p = counted (places_of xs a.shut) in
+  pub unit_idle_under : get_or s.counted_idles k 0 ≤ MOST_COST_SUM
+  unit_idle_under =
+      let each : (i : ℕ) → i < 16 → idle p a.fee i ≤ MOST_COST = λ i m. omega (arith, idle_off p a.fee i, t.costs.offs.most i) in
+      omega (arith, t.sums.counted_idles.each k l, sum_most (idle p a.fee) MOST_COST k each l)
+
+  pub unit_gain_under : get_or s.counted_gains k 0 ≤ MOST_GAIN_SUM
+  unit_gain_under =
       let each : (i : ℕ) → i < 16 → gain p a.unit a.fee i ≤ MOST_GAIN =
-      λ i m. gain_most p a.unit a.fee i y.advice.unit_rate (omega arith) (offs_most xs y.costs i m) in
-      omega (arith, e, unit_gains xs ys a y k l, sum_most (gain p a.unit a.fee) MOST_GAIN k each l)
+      λ i m. gain_most p a.unit a.fee i t.advice.unit_rate (omega arith) (t.costs.offs.most i) in
+      omega (arith, t.sums.counted_gains.each k l, sum_most (gain p a.unit a.fee) MOST_GAIN k each l)
 
-  pub short_few : (need r : ℕ) → OnsShort ys k need r → r ≤ MOST_NEED
-  short_few need r h = omega (arith, h.most, l)
+  pub short_few : (tops : List ℕ) (need r : ℕ) → OnsShort tops k need r → r ≤ MOST_NEED
+  short_few tops need r h = omega (arith, h.most, l)
 
-  pub by_count : (need crews : ℕ) (bar : NumSet) (score i g j r : ℕ) → i ≡ sum_in ys COUNTED_IDLE k → g ≡ sum_in ys COUNTED_GAIN k → OnsShort ys k need j
-      → r ≡ (score + a.unit * j + i) - (g + a.fee * crews)
-      → ChoiceFloor (places_of xs a.shut) k need crews bar score r
-  by_count need crews bar score i g j r e f h t =
-      floor_count (places_of xs a.shut) k need crews bar score a.unit a.fee j r
-      (λ n. let m = h.most in omega (arith, h.short n, y.tops.tops k (j - 1) l (omega (arith, m, l))))
-      (rw (← (unit_idles xs ys a y k l), ← (unit_gains xs ys a y k l), ← e, ← f) t)
-
--- ---- the loop
-
-pub short_start : (ys : List ℕ) (k need : ℕ) → OnsShort ys k need 0
-short_start ys k need = record { most = omega arith; short = λ l. absurd (omega arith) }
-
-pub short_next : (ys : List ℕ) (k need j most : ℕ) → j < k → most ≡ sum_in ys (TOPS + k) j → most < need → OnsShort ys k need (j + 1)
-short_next ys k need j most l e h = record {
-  most = omega arith;
-  short = λ n. let q : j ≡ j + 1 - 1 = omega arith in subst (λ (i : ℕ). sum_in ys (TOPS + k) i < need) q (omega (arith, e, h));
-}
+  pub by_count : (need crews : ℕ) (bar : NumSet) (score j r : ℕ) → OnsShort (get_or s.tops k []) k need j
+      → r ≡ (score + a.unit * j + get_or s.counted_idles k 0) - (get_or s.counted_gains k 0 + a.fee * crews)
+      → ChoiceFloor (places_of c a.shut) k need crews bar score r
+  by_count need crews bar score j r h e =
+      floor_count (places_of c a.shut) k need crews bar score a.unit a.fee j r
+      (λ n. omega (arith, h.short n, (t.tops.each k l).each (j - 1) (omega (arith, h.most, l))))
+      (rw (t.sums.counted_idles.each k l, t.sums.counted_gains.each k l) at e)

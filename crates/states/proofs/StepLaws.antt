@@ -2,25 +2,22 @@
 -- Assumes nothing.
 use Prim.Native.Nat.{ℕ, suc, ◌+◌, ◌-◌, ◌≤◌, ◌<◌}
 use mathlib.Core.Path.{◌≡◌, refl, sym, ◌∙◌, ap, subst}
-use mathlib.Core.Bool.{Bool, true, false, ◌||◌}
+use mathlib.Core.Bool.{Bool, true, false, not, ◌&&◌, ◌||◌}
 use mathlib.Core.List.{List}
-use mathlib.Core.Logic.{◌⊎◌, ⊎_elim, inl, inr}
-use native.Mathlib.Decide.{dec_lt}
+use Rattle.std.specs.Prelude.{Option, Some, None, slice_index_or, get_or}
+use native.Mathlib.Decide.{dec_lt, ℕ_discrete}
 use native.Mathlib.Omega.{arith}
-use lib.Dec.{ltb, eqb}
-use borrow.Author.Tests.{lt-ltb, le-ltb, eq-eqb, ne_eqb}
+use lib.Dec.{ltb}
+use borrow.Author.Tests.{lt-ltb, ltb-true}
 use Rattle.sums.specs.Sum.{sum_to}
 use Rattle.sums.specs.NumSet.{NumSet, has}
 use Rattle.sums.proofs.LogicLaws.{true_false}
-use Rattle.states.specs.Choices.{Places, PlaceStates, given, paid, gone, gives, pays, goes, StateChoice, ChoiceFloor, barred, StateTried, StateHeld, EachState, ChildComes, NodeSeen, ChildIs, may_go}
-use Rattle.states.specs.SearchTables.{cost_in, places_of, ONS, OFFS, OUTS, CLASHES, MOST_SCORE}
+use Rattle.states.specs.Choices.{Places, PlaceStates, given, paid, gone, gives, pays, goes, StateChoice, ChoiceFloor, barred, StateTried, StateHeld, EachState, ChildComes, ChildMade, NodeIs, ChildIs, may_go}
+use Rattle.states.specs.SearchTables.{places_of}
 use Rattle.states.specs.declared.PlaceState.{PlaceState}
 use Rattle.states.specs.declared.PlaceState.TheVariants.{On, Off, Out}
-use Rattle.states.specs.declared.StateOrder.{StateOrder}
+use Rattle.states.specs.declared.Costs.{Costs}
 use Rattle.states.specs.declared.StateNode.{StateNode}
-use Rattle.states.specs.declared.StateChild.{StateChild}
-use Rattle.states.specs.declared.StateFound.{StateFound}
-use Rattle.states.specs.declared.NodeLooked.{NodeLooked}
 
 or_none : (a b : Bool) → a ≡ false → b ≡ false → (a || b) ≡ false
 or_none true b e f = true_false e
@@ -127,173 +124,119 @@ tried_less p k need crews bar score v w On l t = record { below = λ s c. omega 
 tried_less p k need crews bar score v w Off l t = λ h. record { below = λ s c. omega (arith, l, (t h).below s c) }
 tried_less p k need crews bar score v w Out l t = λ h r f. record { below = λ s c. omega (arith, l, (t h r f).below s c) }
 
--- three states in any order, each tried after the other
-pub floor_turn : (p : Places) (k need crews : ℕ) (bar : NumSet) (score a b r : ℕ) (o : StateOrder) → 0 < k → EachState o
-    → StateHeld p (k - 1) need crews bar score a o.first → b ≤ a → StateHeld p (k - 1) need crews bar score b o.second → r ≤ b
-    → StateHeld p (k - 1) need crews bar score r o.third
+-- what is held at a number is at a smaller one
+held_less : (p : Places) (k need crews : ℕ) (bar : NumSet) (score v w : ℕ) (st : PlaceState) → StateHeld p k need crews bar score v st → w ≤ v
+    → StateHeld p k need crews bar score w st
+held_less p k need crews bar score v w st h l = record { tried = tried_less p k need crews bar score v w st l h.tried }
+
+-- one state more
+pub tried_next : (p : Places) (k need crews : ℕ) (bar : NumSet) (score v w n : ℕ) (o : List PlaceState)
+    → ((m : ℕ) → m < n → StateHeld p k need crews bar score v (slice_index_or o m On)) → w ≤ v
+    → StateHeld p k need crews bar score w (slice_index_or o n On)
+    → (m : ℕ) → m < n + 1 → StateHeld p k need crews bar score w (slice_index_or o m On)
+tried_next p k need crews bar score v w n o h l x m b = by (ℕ_discrete m n)
+  where
+    by : Dec (m ≡ n) → StateHeld p k need crews bar score w (slice_index_or o m On)
+    by (yes e) = subst (λ (i : ℕ). StateHeld p k need crews bar score w (slice_index_or o i On)) (sym e) x
+    by (no z) = held_less p k need crews bar score v w (slice_index_or o m On) (h m (omega (arith, b, z))) l
+
+-- three states in any order, each tried
+pub floor_turn : (p : Places) (k need crews : ℕ) (bar : NumSet) (score r : ℕ) (o : List PlaceState) → 0 < k → EachState o
+    → ((n : ℕ) → n < 3 → StateHeld p (k - 1) need crews bar score r (slice_index_or o n On))
     → ChoiceFloor p k need crews bar score r
-floor_turn p k need crews bar score a b r o z each x l y m w =
+floor_turn p k need crews bar score r o z each h =
     let q : suc (k - 1) ≡ k = omega arith in
     subst (λ (n : ℕ). ChoiceFloor p n need crews bar score r) q (floor_all p (k - 1) need crews bar score r all)
   where
     all : (st : PlaceState) → StateTried p (k - 1) need crews bar score r st
     all st =
-        ⊎_elim
-        (λ (e : st ≡ o.first). subst (StateTried p (k - 1) need crews bar score r) (sym e)
-        (tried_less p (k - 1) need crews bar score a r o.first (omega (arith, l, m)) x.tried))
-        (λ (d : (st ≡ o.second) ⊎ (st ≡ o.third)). ⊎_elim
-        (λ (e : st ≡ o.second). subst (StateTried p (k - 1) need crews bar score r) (sym e)
-        (tried_less p (k - 1) need crews bar score b r o.second m y.tried))
-        (λ (e : st ≡ o.third). subst (StateTried p (k - 1) need crews bar score r) (sym e) w.tried)
-        d)
-        (each.one st)
+        let e = each.one st in subst (StateTried p (k - 1) need crews bar score r) e.2 (h e.0 e.1).tried
 
 -- ---- what comes of each
 
 -- a lower bound of the node made is one of the node meant
-next_floor : (p : Places) (i need crews score : ℕ) (bar : NumSet) (w : Bool) (c : StateChild) → ChildIs w need crews score bar c → (v : ℕ)
-    → ChoiceFloor p i c.node.need c.node.crews (has c.node.bar) c.node.score v → ChoiceFloor p i need crews bar score v
-next_floor p i need crews score bar w c n v f = record {
+next_floor : (p : Places) (i need crews score : ℕ) (bar : NumSet) (n : StateNode) → NodeIs need crews score bar n → (v : ℕ)
+    → ChoiceFloor p i n.need n.crews (has n.bar) n.score v → ChoiceFloor p i need crews bar score v
+next_floor p i need crews score bar n is v f = record {
   below = λ s d. omega (
     arith,
-    n.score_is,
+    is.score_is,
     f.below s (record {
-      enough = omega (arith, d.enough, n.need_is);
-      few = omega (arith, d.few, n.crews_is);
+      enough = omega (arith, d.enough, is.need_is);
+      few = omega (arith, d.few, is.crews_is);
       unshut = d.unshut;
-      free = λ j l o. n.bar_is j ∙ d.free j l o;
+      free = λ j l o. is.bar_is j ∙ d.free j l o;
       apart = d.apart;
     }),
   );
 }
 
 may_go_lem : (off out crews : ℕ) (bar : NumSet) (i : ℕ) → may_go off out crews bar i ≡ false → out < off → 0 < crews → bar i ≡ false → ⊥
-unfolding may_go
-may_go_lem off out crews bar i e l r f =
-    let a : ltb out off ≡ true = lt-ltb out off l in
-    let b : eqb crews 0 ≡ false = ne_eqb crews 0 (λ z. omega (arith, z, r)) in
-    true_false (rw (a, b, f) at e)
+may_go_lem off out crews bar i e l r f = true_false (rw (lt-ltb out off l, lt-ltb 0 crews r, f) at e)
 
-module _ (p : Places) (i : ℕ) (y : StateNode) (st : PlaceState) (c : StateChild) where
-  pub comes_on : st ≡ On → ChildIs true (y.need - p.cap i) y.crews (y.score + p.on i) (has y.bar) c → ChildComes p i y st c
-  comes_on e n = subst (λ (q : PlaceState). ChildComes p i y q c) (sym e) (record {
-    crews = omega (arith, n.crews_is);
-    passed = λ f. true_false (sym n.worth_is ∙ f);
-    made = λ t v f. record { tried = next_floor p i _ _ _ _ _ c n v f };
-  })
+-- where it may go, a crew is left
+pub go_crew : (off out crews : ℕ) (bar : NumSet) (i : ℕ) (r : Bool) → r ≡ may_go off out crews bar i → r ≡ true → 1 ≤ crews
+go_crew off out crews bar i r e f = by (ltb out off) (ltb 0 crews) refl (sym e ∙ f)
+  where
+    by : (a b : Bool) → ltb 0 crews ≡ b → (a && b && not (bar i)) ≡ true → 1 ≤ crews
+    by true true g h = ltb-true 0 crews g
+    by true false g h = true_false (sym h)
+    by false b g h = true_false (sym h)
 
-  pub comes_off : st ≡ Off → ChildIs (ltb (p.off i) (p.on i)) y.need y.crews (y.score + p.off i) (has y.bar) c → ChildComes p i y st c
-  comes_off e n = subst (λ (q : PlaceState). ChildComes p i y q c) (sym e) (record {
-    crews = omega (arith, n.crews_is);
-    passed = λ f v. record { tried = λ l. true_false (sym (lt-ltb (p.off i) (p.on i) l) ∙ (sym n.worth_is ∙ f)) };
-    made = λ t v f. record { tried = λ l. next_floor p i _ _ _ _ _ c n v f };
-  })
+module _ (p : Places) (i : ℕ) (y : StateNode) where
+  by_off : (c : Option StateNode) → ChildIs (ltb (p.off i) (p.on i)) y.need y.crews (y.score + p.off i) (has y.bar) c → ChildComes p i y Off c
+  by_off None e = record { held = λ v. record { tried = λ l. true_false (sym (lt-ltb (p.off i) (p.on i) l) ∙ e) } }
+  by_off (Some n) is = record {
+    crews = omega (arith, is.1.crews_is);
+    held = λ v f. record { tried = λ l. next_floor p i _ _ _ _ n is.1 v f };
+  }
 
-  pub comes_out : st ≡ Out
+  by_out : (c : Option StateNode)
       → ChildIs (may_go (p.off i) (p.out i) y.crews (has y.bar) i) y.need (y.crews - 1) (y.score + p.out i) (barred p i (has y.bar)) c
-      → ChildComes p i y st c
-  comes_out e n = subst (λ (q : PlaceState). ChildComes p i y q c) (sym e) (record {
-    crews = omega (arith, n.crews_is);
-    passed = λ f v. record {
-      tried = λ l r b. absurd (may_go_lem (p.off i) (p.out i) y.crews (has y.bar) i (sym n.worth_is ∙ f) l r b);
-    };
-    made = λ t v f. record { tried = λ l r b. next_floor p i _ _ _ _ _ c n v f };
-  })
+      → ChildComes p i y Out c
+  by_out None e = record {
+    held = λ v. record { tried = λ l r b. absurd (may_go_lem (p.off i) (p.out i) y.crews (has y.bar) i e l r b) };
+  }
+  by_out (Some n) is = record {
+    crews = omega (arith, is.1.crews_is);
+    held = λ v f. record { tried = λ l r b. next_floor p i _ _ _ _ n is.1 v f };
+  }
 
--- the tests that are made
-pub less_is : (xs : List ℕ) (i off on : ℕ) → on ≡ cost_in xs ONS i → off ≡ cost_in xs OFFS i → ltb off on ≡ ltb (cost_in xs OFFS i) (cost_in xs ONS i)
-less_is xs i off on e f = rw (e, f) refl
+  module _ (st : PlaceState) where
+    pub comes_on : (n : StateNode) → st ≡ On → NodeIs (y.need - p.cap i) y.crews (y.score + p.on i) (has y.bar) n → ChildMade p i y st n
+    comes_on n e is = subst (λ (q : PlaceState). ChildMade p i y q n) (sym e) (record {
+      crews = omega (arith, is.crews_is);
+      held = λ v f. record { tried = next_floor p i _ _ _ _ n is v f };
+    })
 
-pub go_cells : (xs : List ℕ) (i off out crews bar : ℕ) (r : Bool) → off ≡ cost_in xs OFFS i → out ≡ cost_in xs OUTS i → r ≡ may_go off out crews (has bar) i
-    → r ≡ may_go (cost_in xs OFFS i) (cost_in xs OUTS i) crews (has bar) i
-go_cells xs i off out crews bar r e f h = rw (e, f) at h
+    pub comes_off : (c : Option StateNode) → st ≡ Off → ChildIs (ltb (p.off i) (p.on i)) y.need y.crews (y.score + p.off i) (has y.bar) c
+        → ChildComes p i y st c
+    comes_off c e is = subst (λ (q : PlaceState). ChildComes p i y q c) (sym e) (by_off c is)
 
-pub go_dear : (off out crews bar i : ℕ) → off ≤ out → false ≡ may_go off out crews (has bar) i
-unfolding may_go
-go_dear off out crews bar i l = rw (le-ltb out off l) refl
+    pub comes_out : (c : Option StateNode) → st ≡ Out
+        → ChildIs (may_go (p.off i) (p.out i) y.crews (has y.bar) i) y.need (y.crews - 1) (y.score + p.out i) (barred p i (has y.bar)) c
+        → ChildComes p i y st c
+    comes_out c e is = subst (λ (q : PlaceState). ChildComes p i y q c) (sym e) (by_out c is)
 
-pub go_none : (off out crews bar i : ℕ) → out < off → crews ≡ 0 → false ≡ may_go off out crews (has bar) i
-unfolding may_go
-go_none off out crews bar i l e = rw (lt-ltb out off l, eq-eqb crews 0 e) refl
+-- ---- the tests that are made
 
-pub go_barred : (off out crews bar i : ℕ) (b : Bool) → out < off → (crews ≡ 0 → ⊥) → b ≡ true → b ≡ has bar i → false ≡ may_go off out crews (has bar) i
-unfolding may_go
-go_barred off out crews bar i b l z e h = rw (lt-ltb out off l, ne_eqb crews 0 z, ← h, e) refl
+pub go_bit : (off out crews : ℕ) (bar : NumSet) (i : ℕ) (r b : Bool) → r ≡ may_go off out crews bar i → r ≡ b → may_go off out crews bar i ≡ b
+go_bit off out crews bar i r b e f = sym e ∙ f
 
-pub go_yes : (off out crews bar i : ℕ) (b : Bool) → out < off → (crews ≡ 0 → ⊥) → b ≡ false → b ≡ has bar i → true ≡ may_go off out crews (has bar) i
-unfolding may_go
-go_yes off out crews bar i b l z e h = rw (lt-ltb out off l, ne_eqb crews 0 z, ← h, e) refl
-
--- the cells that make the node
-pub bar_or : (xs : List ℕ) (shut i bar c r : ℕ) → c ≡ cost_in xs CLASHES i → ((j : ℕ) → has r j ≡ (has bar j || has c j))
-    → (j : ℕ) → has r j ≡ barred (places_of xs shut) i (has bar) j
+-- the places that are barred then
+pub bar_or : (c : Costs) (shut i bar r : ℕ) → ((j : ℕ) → has r j ≡ (has bar j || has (get_or c.clashes i 0) j))
+    → (j : ℕ) → has r j ≡ barred (places_of c shut) i (has bar) j
 unfolding barred
-bar_or xs shut i bar c r e h j = h j ∙ ap (λ (n : ℕ). has bar j || has n j) e
+bar_or c shut i bar r h j = h j
 
 -- ---- orders
 
-pub record AllStates (a b c : PlaceState) : Type 0 where
-  pub one : (st : PlaceState) → (st ≡ a) ⊎ ((st ≡ b) ⊎ (st ≡ c))
-
-pub nfo : AllStates On Off Out
-nfo = record { one = by }
+-- each state at its place
+pub each_state : (o : List PlaceState) (a b c : ℕ) → a < 3 → b < 3 → c < 3 → slice_index_or o a On ≡ On → slice_index_or o b On ≡ Off
+    → slice_index_or o c On ≡ Out → EachState o
+each_state o a b c k l m e f g = record { one = by }
   where
-    by : (st : PlaceState) → (st ≡ On) ⊎ ((st ≡ Off) ⊎ (st ≡ Out))
-    by On = inl refl
-    by Off = inr (inl refl)
-    by Out = inr (inr refl)
-
-pub nof : AllStates On Out Off
-nof = record { one = by }
-  where
-    by : (st : PlaceState) → (st ≡ On) ⊎ ((st ≡ Out) ⊎ (st ≡ Off))
-    by On = inl refl
-    by Off = inr (inr refl)
-    by Out = inr (inl refl)
-
--- a cyclic change
-turned : (a b c : PlaceState) → AllStates a b c → AllStates c a b
-turned a b c h = record {
-  one = λ st. ⊎_elim
-      (λ (e : st ≡ a). inr (inl e))
-      (λ (d : (st ≡ b) ⊎ (st ≡ c)). ⊎_elim (λ (e : st ≡ b). inr (inr e)) (λ (e : st ≡ c). inl e) d)
-      (h.one st);
-}
-
-pub onf : AllStates Out On Off
-onf = turned On Off Out nfo
-
-pub fon : AllStates Off Out On
-fon = turned Out On Off onf
-
-pub fno : AllStates Off On Out
-fno = turned On Out Off nof
-
-pub ofn : AllStates Out Off On
-ofn = turned Off On Out fno
-
--- ---- the contracts' facts
-
-module _ (p : Places) (i : ℕ) (y : StateNode) (st : PlaceState) (c : StateChild) (h : ChildComes p i y st c) where
-  pub comes_crews : y.crews ≤ 16 → c.node.crews ≤ 16
-  comes_crews l = omega (arith, l, h.crews)
-
-  pub comes_passed : (v : ℕ) → c.worth ≡ false → StateHeld p i y.need y.crews (has y.bar) y.score v st
-  comes_passed v e = h.passed e v
-
-  pub comes_made : (v : ℕ) → c.worth ≡ true → ChoiceFloor p i c.node.need c.node.crews (has c.node.bar) c.node.score v
-      → StateHeld p i y.need y.crews (has y.bar) y.score v st
-  comes_made v e f = h.made e v f
-
-module _ (p : Places) (k : ℕ) (y : StateNode) (low : StateFound) (x : NodeLooked) (h : NodeSeen p k y low x) where
-  pub seen_ended : x.done ≡ true → ChoiceFloor p k y.need y.crews (has y.bar) y.score x.found.best
-  seen_ended e = h.ended e
-
-  pub seen_some : x.done ≡ false → 0 < k
-  seen_some e = h.more e
-
-  pub seen_score : x.done ≡ false → low.best ≤ MOST_SCORE → y.score ≤ MOST_SCORE
-  seen_score e l = omega (arith, l, h.score e)
-
-  pub seen_best : low.best ≤ MOST_SCORE → x.found.best ≤ MOST_SCORE
-  seen_best l = omega (arith, l, h.less)
+    by : (st : PlaceState) → (n : ℕ) × (n < 3) × (slice_index_or o n On ≡ st)
+    by On = (a, k, e)
+    by Off = (b, l, f)
+    by Out = (c, m, g)

@@ -1,91 +1,62 @@
 -- What the table of sums says of a node.
 -- Assumes nothing.
 use Prim.Native.Nat.{ℕ, ◌+◌, ◌-◌, ◌*◌, ◌≤◌, ◌<◌}
-use mathlib.Core.Path.{◌≡◌, refl, sym, ap}
-use mathlib.Core.Bool.{true, false}
-use mathlib.Core.List.{List}
+use mathlib.Core.Path.{◌≡◌, refl, ap}
+use lib.ListN.{get_or}
 use native.Mathlib.Omega.{arith}
 use Rattle.sums.specs.Sum.{sum_to}
-use Rattle.sums.specs.NumSet.{NumSet, has}
+use Rattle.sums.specs.NumSet.{NumSet}
 use Rattle.sums.proofs.SumLaws.{sum_mono}
-use Rattle.sums.proofs.LogicLaws.{true_false}
-use Rattle.states.specs.Choices.{Places, PlaceStates, given, gives, ChoiceFloor, NodeSeen, looked_at, counted, greater, idle, gain, flat}
-use Rattle.states.specs.SearchTables.{SearchTables, cost_in, sum_in, places_of, term_of, CAPS, ROOMS, IDLES, GAINS, FLATS, COUNTED_IDLE, COUNTED_GAIN}
+use Rattle.states.specs.Choices.{Places, PlaceStates, given, gives, ChoiceFloor, NodeDone, idle, gain, flat}
+use Rattle.states.specs.SearchTables.{SearchTables, places_of}
 use Rattle.states.specs.SearchTables.{MOST_CAP, MOST_COST, MOST_COST_SUM, MOST_GAIN, MOST_GAIN_SUM, MOST_NEED}
 use Rattle.states.specs.declared.Advice.{Advice}
+use Rattle.states.specs.declared.Costs.{Costs}
+use Rattle.states.specs.declared.Sums.{Sums}
 use Rattle.states.specs.declared.PlaceState.{PlaceState}
 use Rattle.states.specs.declared.PlaceState.TheVariants.{On, Off, Out}
 use Rattle.states.specs.declared.StateNode.{StateNode}
 use Rattle.states.specs.declared.StateFound.{StateFound}
-use Rattle.states.specs.declared.NodeLooked.{NodeLooked}
 use Rattle.states.proofs.ChoiceLaws.{floor_rate, floor_flat, idle_off, flat_on}
-use Rattle.states.proofs.RangeLaws.{caps_most, ons_most, offs_most, sum_most, gain_most}
+use Rattle.states.proofs.RangeLaws.{sum_most, gain_most}
 
--- ---- the rows
+-- ---- in their ranges
 
-module _ (xs ys : List ℕ) (a : Advice) (y : SearchTables xs ys a) (k : ℕ) (l : k ≤ 16) where
-  rooms : sum_in ys ROOMS k ≡ sum_to k (cost_in xs CAPS)
-  unfolding term_of
-  rooms = y.sums ROOMS k (omega arith) l
+module _ (c : Costs) (s : Sums) (a : Advice) (t : SearchTables c s a) (k : ℕ) (l : k ≤ 16) where
+  abbrev p : Places
+  p = places_of c a.shut
 
-  idles : sum_in ys IDLES k ≡ sum_to k (idle (places_of xs a.shut) a.price)
-  unfolding term_of
-  idles = y.sums IDLES k (omega arith) l
+  pub idle_under : get_or s.idles k 0 ≤ MOST_COST_SUM
+  idle_under =
+      let each : (i : ℕ) → i < 16 → idle p a.price i ≤ MOST_COST = λ i m. omega (arith, idle_off p a.price i, t.costs.offs.most i) in
+      omega (arith, t.sums.idles.each k l, sum_most (idle p a.price) MOST_COST k each l)
 
-  gains : sum_in ys GAINS k ≡ sum_to k (gain (places_of xs a.shut) a.rate a.price)
-  unfolding term_of
-  gains = y.sums GAINS k (omega arith) l
+  pub flat_under : get_or s.flats k 0 ≤ MOST_COST_SUM
+  flat_under =
+      let each : (i : ℕ) → i < 16 → flat p a.price i ≤ MOST_COST = λ i m. omega (arith, flat_on p a.price i, t.costs.ons.most i) in
+      omega (arith, t.sums.flats.each k l, sum_most (flat p a.price) MOST_COST k each l)
 
-  flats : sum_in ys FLATS k ≡ sum_to k (flat (places_of xs a.shut) a.price)
-  unfolding term_of
-  flats = y.sums FLATS k (omega arith) l
-
-  pub unit_idles : sum_in ys COUNTED_IDLE k ≡ sum_to k (idle (counted (places_of xs a.shut)) a.fee)
-  unfolding term_of
-  unit_idles = y.sums COUNTED_IDLE k (omega arith) l
-
-  pub unit_gains : sum_in ys COUNTED_GAIN k ≡ sum_to k (gain (counted (places_of xs a.shut)) a.unit a.fee)
-  unfolding term_of
-  unit_gains = y.sums COUNTED_GAIN k (omega arith) l
-
-  -- ---- in their ranges
-
-  pub idle_under : (r : ℕ) → r ≡ sum_in ys IDLES k → r ≤ MOST_COST_SUM
-  idle_under r e =
-      let p = places_of xs a.shut in
-      let each : (i : ℕ) → i < 16 → idle p a.price i ≤ MOST_COST = λ i m. omega (arith, idle_off p a.price i, offs_most xs y.costs i m) in
-      omega (arith, e, idles, sum_most (idle p a.price) MOST_COST k each l)
-
-  pub flat_under : (r : ℕ) → r ≡ sum_in ys FLATS k → r ≤ MOST_COST_SUM
-  flat_under r e =
-      let p = places_of xs a.shut in
-      let each : (i : ℕ) → i < 16 → flat p a.price i ≤ MOST_COST = λ i m. omega (arith, flat_on p a.price i, ons_most xs y.costs i m) in
-      omega (arith, e, flats, sum_most (flat p a.price) MOST_COST k each l)
-
-  pub gain_under : (r : ℕ) → r ≡ sum_in ys GAINS k → r ≤ MOST_GAIN_SUM
-  gain_under r e =
-      let p = places_of xs a.shut in
+  pub gain_under : get_or s.gains k 0 ≤ MOST_GAIN_SUM
+  gain_under =
       let each : (i : ℕ) → i < 16 → gain p a.rate a.price i ≤ MOST_GAIN =
-      λ i m. gain_most p a.rate a.price i y.advice.rate (caps_most xs y.costs i m) (offs_most xs y.costs i m) in
-      omega (arith, e, gains, sum_most (gain p a.rate a.price) MOST_GAIN k each l)
+      λ i m. gain_most p a.rate a.price i t.advice.rate (t.costs.caps.most i) (t.costs.offs.most i) in
+      omega (arith, t.sums.gains.each k l, sum_most (gain p a.rate a.price) MOST_GAIN k each l)
 
-  pub room_under : (need r : ℕ) → r ≡ sum_in ys ROOMS k → need ≤ r → need ≤ MOST_NEED
-  room_under need r e h =
-      let each : (i : ℕ) → i < 16 → cost_in xs CAPS i ≤ MOST_CAP = caps_most xs y.costs in
-      omega (arith, e, h, rooms, sum_most (cost_in xs CAPS) MOST_CAP k each l)
+  pub room_under : (need : ℕ) → need ≤ get_or s.rooms k 0 → need ≤ MOST_NEED
+  room_under need h =
+      let each : (i : ℕ) → i < 16 → p.cap i ≤ MOST_CAP = λ i m. t.costs.caps.most i in
+      omega (arith, h, t.sums.rooms.each k l, sum_most p.cap MOST_CAP k each l)
 
   -- ---- lower bounds
 
-  pub by_rate : (need crews : ℕ) (bar : NumSet) (score i g r : ℕ) → i ≡ sum_in ys IDLES k → g ≡ sum_in ys GAINS k
-      → r ≡ (score + a.rate * need + i) - (g + a.price * crews)
-      → ChoiceFloor (places_of xs a.shut) k need crews bar score r
-  by_rate need crews bar score i g r e f h =
-      floor_rate (places_of xs a.shut) k need crews bar score a.rate a.price r (rw (← idles, ← gains, ← e, ← f) h)
+  pub by_rate : (need crews : ℕ) (bar : NumSet) (score r : ℕ)
+      → r ≡ (score + a.rate * need + get_or s.idles k 0) - (get_or s.gains k 0 + a.price * crews) → ChoiceFloor p k need crews bar score r
+  by_rate need crews bar score r h =
+      floor_rate p k need crews bar score a.rate a.price r (rw (t.sums.idles.each k l, t.sums.gains.each k l) at h)
 
-  pub by_flat : (need crews : ℕ) (bar : NumSet) (score f r : ℕ) → f ≡ sum_in ys FLATS k → r ≡ (score + f) - a.price * crews
-      → ChoiceFloor (places_of xs a.shut) k need crews bar score r
-  by_flat need crews bar score f r e h =
-      floor_flat (places_of xs a.shut) k need crews bar score a.price r (rw (← flats, ← e) h)
+  pub by_flat : (need crews : ℕ) (bar : NumSet) (score r : ℕ) → r ≡ (score + get_or s.flats k 0) - a.price * crews
+      → ChoiceFloor p k need crews bar score r
+  by_flat need crews bar score r h = floor_flat p k need crews bar score a.price r (rw (t.sums.flats.each k l) at h)
 
 -- ---- what is seen of a node
 
@@ -98,41 +69,12 @@ cap_most p s k = sum_mono k (gives p s) p.cap (λ i l. by i (s i) refl)
     by i Off e = let h = ap (given p i) e in omega (arith, h)
     by i Out e = let h = ap (given p i) e in omega (arith, h)
 
-module _ (p : Places) (k : ℕ) (y : StateNode) (low : StateFound) (x : NodeLooked) where
-  done_with : (b f o : ℕ) → x ≡ looked_at true b f o → ChoiceFloor p k y.need y.crews (has y.bar) y.score b → b ≤ low.best
-      → NodeSeen p k y low x
-  done_with b f o e h l = rw e (record { ended = λ d. h; less = l; more = λ d. true_false d; score = λ d. true_false d })
-
-  -- the best so far is no more than its score
-  pub seen_dear : x ≡ looked_at true low.best low.fuel low.out → low.best ≤ y.score → NodeSeen p k y low x
-  seen_dear e h = done_with low.best low.fuel low.out e (record { below = λ s c. omega (arith, h) }) (omega arith)
-
-  -- or than a lower bound
-  pub seen_bound : (least : ℕ) → x ≡ looked_at true low.best low.fuel low.out
-      → ChoiceFloor p k y.need y.crews (has y.bar) y.score least → low.best ≤ least → NodeSeen p k y low x
-  seen_bound least e f h = done_with low.best low.fuel low.out e (record { below = λ s c. omega (arith, h, f.below s c) }) (omega arith)
-
-  -- the fuel is spent: it is worth its lower bounds, the larger of two
-  pub seen_spent : (one two least : ℕ) → x ≡ looked_at true least 0 low.out → ChoiceFloor p k y.need y.crews (has y.bar) y.score one
-      → ChoiceFloor p k y.need y.crews (has y.bar) y.score two → least ≡ greater one two → one < low.best → two < low.best
-      → NodeSeen p k y low x
-  unfolding greater
-  seen_spent one two least e f g m h i =
-      done_with least 0 low.out e (record { below = λ s c. omega (arith, m, f.below s c, g.below s c) }) (omega (arith, m, h, i))
-
-  -- no place is left
-  pub seen_leaf : (fuel out : ℕ) → x ≡ looked_at true y.score fuel out → y.score < low.best → NodeSeen p k y low x
-  seen_leaf fuel out e h = done_with y.score fuel out e (record { below = λ s c. omega arith }) (omega arith)
-
-  -- there is a place to decide
-  pub seen_more : (fuel out : ℕ) → x ≡ looked_at false low.best fuel out → y.score < low.best → (k ≡ 0 → ⊥) → NodeSeen p k y low x
-  seen_more fuel out e h z =
-      rw e (record { ended = λ d. true_false (sym d); less = omega arith; more = λ d. omega (arith, z); score = λ d. omega (arith, h) })
-
 -- the places left do not suffice
-pub seen_room : (xs ys : List ℕ) (a : Advice) (k : ℕ) (y : StateNode) (low : StateFound) (x : NodeLooked) (room : ℕ) → SearchTables xs ys a → k ≤ 16
-    → room ≡ sum_in ys ROOMS k → room < y.need → x ≡ looked_at true low.best low.fuel low.out → NodeSeen (places_of xs a.shut) k y low x
-seen_room xs ys a k y low x room r l e h is =
-    done_with (places_of xs a.shut) k y low x low.best low.fuel low.out is
-    (record { below = λ s c. absurd (omega (arith, e, h, c.enough, rooms xs ys a r k l, cap_most (places_of xs a.shut) s k)) })
-    (omega arith)
+pub seen_room : (c : Costs) (s : Sums) (a : Advice) (k : ℕ) (y : StateNode) (low : StateFound) → SearchTables c s a → k ≤ 16
+    → get_or s.rooms k 0 < y.need → NodeDone (places_of c a.shut) k y low low
+seen_room c s a k y low t l h = record {
+  ended = record {
+    below = λ q d. absurd (omega (arith, h, d.enough, t.sums.rooms.each k l, cap_most (places_of c a.shut) q k));
+  };
+  less = omega arith;
+}

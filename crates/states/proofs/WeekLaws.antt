@@ -6,7 +6,6 @@ use mathlib.Core.Bool.{Bool, true, false, not}
 use mathlib.Core.List.{List}
 use mathlib.Core.Logic.{◌⊎◌, ⊎_elim}
 use native.Mathlib.Omega.{arith}
-use borrow.Author.Tests.{lt-ltb}
 use Rattle.sums.specs.Logic.{if}
 use Rattle.sums.specs.Sum.{sum_to, added, counts_one}
 use Rattle.sums.specs.NumSet.{NumSet, only_in, parts, complement, has}
@@ -19,10 +18,11 @@ use Rattle.model.specs.Commitment.{Serves, line_cost, full_cost}
 use Rattle.model.specs.Plan.{Compatible}
 use Rattle.blame.specs.Priced.{WeekLeast}
 use Rattle.blame.proofs.PairLaws.{PairOf, apart_pair}
-use Rattle.tables.specs.Tables.{price_in, partners_in, Partners}
+use Rattle.tables.specs.Tables.{price_in, Partners}
 use Rattle.states.specs.Choices.{Places, PlaceStates, given, paid, gone, gives, pays, goes, StateChoice, ChoiceFloor}
-use Rattle.states.specs.SearchTables.{cost_in, places_of, CAPS, ONS, OFFS, OUTS, CLASHES, COSTS, MOST_SCORE}
-use Rattle.states.specs.Weeks.{SCALE, place_cap, place_on, place_off, place_out, place_row, place_at, PlacesTo, OutKnown, WeekNodeIs, WeekDue}
+use Rattle.states.specs.SearchTables.{places_of, MOST_SCORE}
+use Rattle.states.specs.declared.Costs.{Costs}
+use Rattle.states.specs.Weeks.{SCALE, place_cap, place_on, place_off, place_out, PlacesTo, OutKnown, WeekNodeIs, WeekDue}
 use Rattle.states.specs.declared.Advice.{Advice}
 use Rattle.states.specs.declared.StateNode.{StateNode}
 use Rattle.states.specs.declared.WeekTask.{WeekTask}
@@ -30,7 +30,6 @@ use Rattle.model.specs.declared.Layout.{Layout}
 use Rattle.model.specs.Words.{problem_of}
 use Rattle.states.specs.declared.PlaceState.{PlaceState}
 use Rattle.states.specs.declared.PlaceState.TheVariants.{On, Off, Out}
-use Rattle.states.proofs.PlaceLaws.{places_in}
 
 -- a unit's state: one that is out and shut stands OFF, which costs as much there
 state_of : (shut out run : Bool) → PlaceState
@@ -106,36 +105,9 @@ apart_out p x i j c f g = not_so (apart p i j) (λ e. by (apart_pair p i j e))
         (λ (z : (p.pair_a q.at ≡ j) × (p.pair_b q.at ≡ i)). both q.at q.below (ap x z.0 ∙ g) (ap x z.1 ∙ f))
         q.ends
 
--- ---- the rows of a week's costs
-
-module _ (p : Problem) (xs cs : List ℕ) (t : ℕ) (a : NumSet) (h : PlacesTo p xs t a COSTS cs) (few : p.units ≤ 16) (i : ℕ) (m : i < p.units) where
-  row_is : (row : ℕ) → row < 5 → cost_in cs row i ≡ place_row p xs t a row i
-  unfolding place_at
-  row_is row l = places_in p xs t a cs h row i l (omega (arith, m, few)) ∙ (rw (lt-ltb i p.units m) refl)
-
-  cap_row : cost_in cs CAPS i ≡ place_cap p t a i
-  unfolding place_row
-  cap_row = row_is CAPS (omega arith)
-
-  on_row : cost_in cs ONS i ≡ place_on p (price_in xs) t a i
-  unfolding place_row
-  on_row = row_is ONS (omega arith)
-
-  off_row : cost_in cs OFFS i ≡ place_off p (price_in xs) t a i
-  unfolding place_row
-  off_row = row_is OFFS (omega arith)
-
-  out_row : cost_in cs OUTS i ≡ place_out p t i
-  unfolding place_row
-  out_row = row_is OUTS (omega arith)
-
-  clash_row : cost_in cs CLASHES i ≡ partners_in xs i
-  unfolding place_row
-  clash_row = row_is CLASHES (omega arith)
-
 -- ---- a week
 
-module _ (p : Problem) (xs cs : List ℕ) (t : ℕ) (a : NumSet) (shut crews : ℕ) (h : PlacesTo p xs t a COSTS cs) (few : p.units ≤ 16)
+module _ (p : Problem) (xs : List ℕ) (cs : Costs) (t : ℕ) (a : NumSet) (shut crews : ℕ) (h : PlacesTo p xs t a p.units cs)
     (partners : Partners p p.units xs) (known : OutKnown p (price_in xs) t a shut crews) where
   -- what a set of units out and a run come to
   module _ (out : NumSet) (r : ℕ) (c : Compatible p out) (sub : (i : ℕ) → i < p.units → a i ≡ true → out i ≡ true) (serves : Serves p t out r) where
@@ -151,7 +123,7 @@ module _ (p : Problem) (xs cs : List ℕ) (t : ℕ) (a : NumSet) (shut crews : �
     given_all : sum_to p.units (gives q s) ≡ output p t (has r)
     unfolding output gives given only_in states_of s q place_cap
     given_all = sum_same p.units (gives q s) (only_in (has r) (p.capacity t))
-        (λ i l. gives_line (a i) (has shut i) (out i) (has r i) (p.capacity t i) (sub i l) (none i l) (given q i) (cap_row p xs cs t a h few i l) refl refl)
+        (λ i l. gives_line (a i) (has shut i) (out i) (has r i) (p.capacity t i) (sub i l) (none i l) (given q i) (h.caps.each i l) refl refl)
 
     paid_all : sum_to p.units (pays q s) ≡ (full_cost p t r + sum_to p.units (only_in (complement out) (price_in xs t))) * SCALE
     unfolding full_cost line_cost pays paid only_in parts complement added states_of s q place_on place_off place_out
@@ -159,7 +131,7 @@ module _ (p : Problem) (xs cs : List ℕ) (t : ℕ) (a : NumSet) (shut crews : �
         let f : ℕ → ℕ = added (line_cost p t r) (only_in (complement out) (price_in xs t)) in
         let each : sum_to p.units (pays q s) ≡ sum_to p.units (λ i. f i * SCALE) = sum_same p.units (pays q s) (λ i. f i * SCALE)
         (λ i l. pays_line (a i) (has shut i) (out i) (has r i) (p.running t i) (p.off t i) (price_in xs t i) (sub i l) (none i l)
-        (known.free out c sub i l) (paid q i) (on_row p xs cs t a h few i l) (off_row p xs cs t a h few i l) (out_row p xs cs t a h few i l)) in
+        (known.free out c sub i l) (paid q i) (h.ons.each i l) (h.offs.each i l) (h.outs.each i l)) in
         each ∙ sum_scaled p.units f ∙ ap (λ (n : ℕ). n * SCALE) (sum_added p.units (line_cost p t r) (only_in (complement out) (price_in xs t)))
 
     gone_all : headcount p a + sum_to p.units (goes s) ≤ headcount p out
@@ -182,7 +154,7 @@ module _ (p : Problem) (xs cs : List ℕ) (t : ℕ) (a : NumSet) (shut crews : �
       unshut = λ i l e. (unshut i e).0;
       free = λ i l e. (unshut i e).0;
       apart = λ i j l m e d.
-          ap (λ (n : ℕ). has n j) (clash_row p xs cs t a h few i l) ∙ (partners.each i l).sets j ∙ apart_out p out i j c (unshut i e).1 (unshut j d).1;
+          ap (λ (n : ℕ). has n j) (h.clashes.each i l) ∙ (partners.each i l).sets j ∙ apart_out p out i j c (unshut i e).1 (unshut j d).1;
     }
 
   -- so a lower bound of choices, scaled down and rounded up, is one of the week
@@ -209,14 +181,14 @@ known_node p u t a shut room crews k e = record {
   crews = ⊎_elim (λ (z : crews ≡ room). omega (arith, z, k.crews)) (λ (z : crews ≡ p.crews). omega (arith, z)) e;
 }
 
-pub week_answer : (ws xs cs : List ℕ) (l : Layout) (w : WeekTask) (y : StateNode) (v best : ℕ) → WeekDue ws l xs w
-    → PlacesTo (problem_of ws) xs w.week (has w.out) COSTS cs → WeekNodeIs (problem_of ws) w y
+pub week_answer : (ws xs : List ℕ) (cs : Costs) (l : Layout) (w : WeekTask) (y : StateNode) (v best : ℕ) → WeekDue ws l xs w
+    → PlacesTo (problem_of ws) xs w.week (has w.out) l.units cs → WeekNodeIs (problem_of ws) w y
     → ChoiceFloor (places_of cs y.bar) l.units y.need y.crews (has y.bar) y.score best → v * SCALE ≤ best + (SCALE - 1)
     → WeekLeast (problem_of ws) (price_in xs) w.week (has w.out) v
 week_answer ws xs cs l w y v best due places node floor small =
     let p = problem_of ws in
-    let few : p.units ≤ 16 = omega (arith, due.filed.units_are, due.filed.units_most) in
-    week_floor p xs cs w.week (has w.out) w.shut y.crews places few due.priced.partners
+    week_floor p xs cs w.week (has w.out) w.shut y.crews
+    (subst (λ (n : ℕ). PlacesTo p xs w.week (has w.out) n cs) (sym due.filed.units_are) places) due.priced.partners
     (known_node p (price_in xs) w.week (has w.out) w.shut w.room y.crews due.known node.left) v best
     (subst (λ (n : ℕ). ChoiceFloor (places_of cs w.shut) n (p.demand w.week) y.crews (has w.shut) 0 best) (sym due.filed.units_are)
     (subst (λ (n : ℕ). ChoiceFloor (places_of cs n) l.units (p.demand w.week) y.crews (has n) 0 best) node.bar
@@ -231,6 +203,6 @@ pub best_fits : (most best start : ℕ) → most * SCALE ≤ MOST_SCORE → star
 best_fits most best start h e l = omega (arith, h, e, l)
 
 -- tables made with the node's bar as the places that are never OUT
-pub tables_shut : (xs ys : List ℕ) (a : Advice) (k need crews : ℕ) (bar : NumSet) (score v shut : ℕ) → a.shut ≡ shut
-    → ChoiceFloor (places_of xs a.shut) k need crews bar score v → ChoiceFloor (places_of xs shut) k need crews bar score v
-tables_shut xs ys a k need crews bar score v shut e f = subst (λ (n : ℕ). ChoiceFloor (places_of xs n) k need crews bar score v) e f
+pub tables_shut : (c : Costs) (a : Advice) (k need crews : ℕ) (bar : NumSet) (score v shut : ℕ) → a.shut ≡ shut
+    → ChoiceFloor (places_of c a.shut) k need crews bar score v → ChoiceFloor (places_of c shut) k need crews bar score v
+tables_shut c a k need crews bar score v shut e f = subst (λ (n : ℕ). ChoiceFloor (places_of c n) k need crews bar score v) e f

@@ -1,17 +1,16 @@
 -- Places that are each ON, OFF or OUT: what a choice of states gives and costs, which choices count, and what every one of them costs at least.
 -- In the field this is a knapsack cover with a third state that a limited number may take.
 -- Assumes nothing.
-use Rattle.std.specs.Prelude.{ℕ, zero, suc, ◌+◌, ◌-◌, ◌*◌, ◌≤◌, ◌<◌, ◌≡◌, Bool, true, false, not, ◌||◌, ltb, eqb, ◌⊎◌}
+use Rattle.std.specs.Prelude.{ℕ, zero, suc, ◌+◌, ◌-◌, ◌*◌, ◌≤◌, ◌<◌, ◌≡◌, min, max, Bool, true, false, not, ◌&&◌, ◌||◌, ltb, List, slice_index_or, Option, Some, None}
 use Rattle.sums.specs.Logic.{if}
 use Rattle.sums.specs.Sum.{sum_to}
 use Rattle.sums.specs.NumSet.{NumSet, has}
 use Rattle.states.specs.declared.PlaceState.{PlaceState}
 use Rattle.states.specs.declared.PlaceState.TheVariants.{On, Off, Out}
-use Rattle.states.specs.declared.StateOrder.{StateOrder}
 use Rattle.states.specs.declared.StateNode.{StateNode}
-use Rattle.states.specs.declared.StateChild.{StateChild}
 use Rattle.states.specs.declared.StateFound.{StateFound}
-use Rattle.states.specs.declared.NodeLooked.{NodeLooked}
+use Rattle.states.specs.declared.Looked.{Looked}
+use Rattle.states.specs.declared.Looked.TheVariants.{Done, Open}
 
 -- what each place gives where it is ON, what its three states cost, the places that are never OUT, and with which others each may not be
 pub record Places : Type 0 where
@@ -81,18 +80,14 @@ pub record StateHeld (p : Places) (i need crews : ℕ) (bar : NumSet) (score v :
   pub tried : StateTried p i need crews bar score v st
 
 -- an order has every state
-pub record EachState (o : StateOrder) : Type 0 where
-  pub one : (st : PlaceState) → (st ≡ o.first) ⊎ ((st ≡ o.second) ⊎ (st ≡ o.third))
+pub record EachState (o : List PlaceState) : Type 0 where
+  pub one : (st : PlaceState) → (n : ℕ) × (n < 3) × (slice_index_or o n On ≡ st)
 
 -- ---- at a rate for what is needed and a price for each that is OUT
 
--- the smaller of two
-unfoldable pub lesser : ℕ → ℕ → ℕ
-lesser a b = a - (a - b)
-
 -- what a place costs at least where it is not ON, with the price of being OUT
 unfoldable pub idle : Places → (price : ℕ) → ℕ → ℕ
-idle p price i = if (p.shut i) (p.off i) (lesser (p.off i) (price + p.out i))
+idle p price i = if (p.shut i) (p.off i) (min (p.off i) (price + p.out i))
 
 -- what ON yields above its cost, at the rate
 unfoldable pub gain : Places → (rate price : ℕ) → ℕ → ℕ
@@ -102,47 +97,58 @@ gain p rate price i = (rate * p.cap i + idle p price i) - p.on i
 abbrev pub counted : Places → Places
 counted p = record { cap = λ i. 1; on = p.on; off = p.off; out = p.out; shut = p.shut; clash = p.clash }
 
--- the larger of two
-unfoldable pub greater : ℕ → ℕ → ℕ
-greater a b = a + (b - a)
-
 -- what any j of the places below k give at most
 unfoldable pub top_of : (ℕ → ℕ) → (k j : ℕ) → ℕ
-unfolding greater
 top_of cap zero j = 0
 top_of cap (suc k) zero = 0
-top_of cap (suc k) (suc j) = greater (top_of cap k (suc j)) (top_of cap k j + cap k)
+top_of cap (suc k) (suc j) = max (top_of cap k (suc j)) (top_of cap k j + cap k)
 
 -- what a place costs at least
 unfoldable pub flat : Places → (price : ℕ) → ℕ → ℕ
-flat p price i = lesser (idle p price i) (p.on i)
+flat p price i = min (idle p price i) (p.on i)
 
--- what comes of place i in a state: nothing new, or a node whose lower bounds are those of the choices with place i in that state
-pub record ChildComes (p : Places) (i : ℕ) (y : StateNode) (st : PlaceState) (c : StateChild) : Type 0 where
-  pub crews : c.node.crews ≤ y.crews
-  pub passed : c.worth ≡ false → (v : ℕ) → StateHeld p i y.need y.crews (has y.bar) y.score v st
-  pub made : c.worth ≡ true → (v : ℕ) → ChoiceFloor p i c.node.need c.node.crews (has c.node.bar) c.node.score v
-      → StateHeld p i y.need y.crews (has y.bar) y.score v st
+-- nothing new comes of place i in a state
+pub record ChildPassed (p : Places) (i : ℕ) (y : StateNode) (st : PlaceState) : Type 0 where
+  pub held : (v : ℕ) → StateHeld p i y.need y.crews (has y.bar) y.score v st
 
--- the node that c is, and whether it is worth a look
-pub record ChildIs (worth : Bool) (need crews score : ℕ) (bar : NumSet) (c : StateChild) : Type 0 where
-  pub worth_is : c.worth ≡ worth
-  pub need_is : c.node.need ≡ need
-  pub crews_is : c.node.crews ≡ crews
-  pub score_is : c.node.score ≡ score
-  pub bar_is : (j : ℕ) → has c.node.bar j ≡ bar j
+-- n is a node whose lower bounds are those of the choices with place i in that state
+pub record ChildMade (p : Places) (i : ℕ) (y : StateNode) (st : PlaceState) (n : StateNode) : Type 0 where
+  pub crews : n.crews ≤ y.crews
+  pub held : (v : ℕ) → ChoiceFloor p i n.need n.crews (has n.bar) n.score v → StateHeld p i y.need y.crews (has y.bar) y.score v st
+
+-- what comes of place i in a state
+abbrev pub ChildComes : Places → ℕ → StateNode → PlaceState → Option StateNode → Type 0
+ChildComes p i y st None = ChildPassed p i y st
+ChildComes p i y st (Some n) = ChildMade p i y st n
+
+-- what node n leaves and costs
+pub record NodeIs (need crews score : ℕ) (bar : NumSet) (n : StateNode) : Type 0 where
+  pub need_is : n.need ≡ need
+  pub crews_is : n.crews ≡ crews
+  pub score_is : n.score ≡ score
+  pub bar_is : (j : ℕ) → has n.bar j ≡ bar j
+
+-- that node exactly where it is worth a look
+abbrev pub ChildIs : Bool → (need crews score : ℕ) → NumSet → Option StateNode → Type 0
+ChildIs worth need crews score bar None = worth ≡ false
+ChildIs worth need crews score bar (Some n) = (worth ≡ true) × NodeIs need crews score bar n
 
 -- whether a place is tried OUT
-unfoldable pub may_go : (off out crews : ℕ) → NumSet → ℕ → Bool
-may_go off out crews bar i = if (ltb out off) (if (eqb crews 0) false (not (bar i))) false
+abbrev pub may_go : (off out crews : ℕ) → NumSet → ℕ → Bool
+may_go off out crews bar i = ltb out off && ltb 0 crews && not (bar i)
 
--- what is seen of a node before its highest place is decided: it is done with, or there is a place to decide
-pub record NodeSeen (p : Places) (k : ℕ) (y : StateNode) (low : StateFound) (x : NodeLooked) : Type 0 where
-  pub ended : x.done ≡ true → ChoiceFloor p k y.need y.crews (has y.bar) y.score x.found.best
-  pub less : x.found.best ≤ low.best
-  pub more : x.done ≡ false → 0 < k
-  pub score : x.done ≡ false → y.score ≤ low.best
+-- a node is done with: the best so far, or less, is at most what every choice from it costs
+pub record NodeDone (p : Places) (k : ℕ) (y : StateNode) (low found : StateFound) : Type 0 where
+  pub ended : ChoiceFloor p k y.need y.crews (has y.bar) y.score found.best
+  pub less : found.best ≤ low.best
 
--- what is seen of a node, in one number each
-abbrev pub looked_at : Bool → (best fuel out : ℕ) → NodeLooked
-looked_at done best fuel out = record { done = done; found = record { best = best; fuel = fuel; out = out } }
+-- there is a place to decide
+pub record NodeOpen (k : ℕ) (y : StateNode) (low found : StateFound) : Type 0 where
+  pub less : found.best ≤ low.best
+  pub more : 0 < k
+  pub score : y.score ≤ low.best
+
+-- what is seen of a node before its highest place is decided
+abbrev pub NodeSeen : Places → ℕ → StateNode → StateFound → Looked → Type 0
+NodeSeen p k y low (Done found) = NodeDone p k y low found
+NodeSeen p k y low (Open found) = NodeOpen k y low found

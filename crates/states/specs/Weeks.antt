@@ -1,7 +1,7 @@
 -- A week at prices as places: every unit is one, in the file's order. A unit that is out already gives nothing and costs its OFF cost in every state,
 -- as the full cost of a run has it; another pays its price unless it is OUT.
 -- Assumes nothing.
-use Rattle.std.specs.Prelude.{ℕ, ◌+◌, ◌*◌, ◌/◌, ◌%◌, ◌≤◌, ◌<◌, ◌≡◌, true, ◌⊎◌, List, eqb, ltb, length, get_or}
+use Rattle.std.specs.Prelude.{ℕ, ◌+◌, ◌*◌, ◌≤◌, ◌<◌, ◌≡◌, true, ◌⊎◌, List, length, get_or}
 use Rattle.sums.specs.Logic.{if}
 use Rattle.sums.specs.NumSet.{NumSet, has}
 use Rattle.model.specs.declared.Layout.{Layout}
@@ -11,7 +11,8 @@ use Rattle.model.specs.Rules.{headcount}
 use Rattle.model.specs.Plan.{Compatible}
 use Rattle.instance.specs.Filed.{Filed}
 use Rattle.tables.specs.Tables.{price_in, partners_in, Priced}
-use Rattle.states.specs.SearchTables.{CAPS, ONS, OFFS, OUTS, COSTS, MOST_SCORE, most_in}
+use Rattle.states.specs.SearchTables.{CostsInRange, MOST_SCORE}
+use Rattle.states.specs.declared.Costs.{Costs}
 use Rattle.states.specs.declared.StateNode.{StateNode}
 use Rattle.states.specs.declared.WeekTask.{WeekTask}
 
@@ -33,29 +34,20 @@ place_off p u t a i = if (a i) (p.off t i) (p.off t i + u t i) * SCALE
 unfoldable pub place_out : Problem → ℕ → ℕ → ℕ
 place_out p t i = p.off t i * SCALE
 
--- a row of the costs, with the partners of each unit as the places with which it clashes
-unfoldable pub place_row : Problem → List ℕ → ℕ → NumSet → ℕ → ℕ → ℕ
-unfolding place_cap place_on place_off place_out
-place_row p xs t a row = if (eqb row CAPS) (place_cap p t a)
-    (if (eqb row ONS) (place_on p (price_in xs) t a)
-    (if (eqb row OFFS) (place_off p (price_in xs) t a)
-    (if (eqb row OUTS) (place_out p t) (partners_in xs))))
+-- the first n places of a row, and 0 behind them
+pub record PlacedTo (f : ℕ → ℕ) (n : ℕ) (xs : List ℕ) : Type 0 where
+  pub long : length xs ≡ 16
+  pub each : (i : ℕ) → i < n → get_or xs i 0 ≡ f i
+  pub rest : (i : ℕ) → n ≤ i → get_or xs i 0 ≡ 0
 
--- 0 behind the last unit
-unfoldable pub place_at : Problem → List ℕ → ℕ → NumSet → (row i : ℕ) → ℕ
-unfolding place_row
-place_at p xs t a row i = if (ltb i p.units) (place_row p xs t a row i) 0
-
--- r is that number, in its range
-pub record PlaceNumber (p : Problem) (xs : List ℕ) (t : ℕ) (a : NumSet) (row i r : ℕ) : Type 0 where
-  pub is : r ≡ place_at p xs t a row i
-  pub most : r ≤ most_in row
-
--- the first n numbers of the costs
-pub record PlacesTo (p : Problem) (xs : List ℕ) (t : ℕ) (a : NumSet) (n : ℕ) (cs : List ℕ) : Type 0 where
-  pub long : length cs ≡ COSTS
-  pub each : (k : ℕ) → k < n → get_or cs k 0 ≡ place_at p xs t a (k / 16) (k % 16)
-  pub most : (k : ℕ) → k < n → get_or cs k 0 ≤ most_in (k / 16)
+-- the costs of the first n units, with the partners of each as the places with which it clashes
+pub record PlacesTo (p : Problem) (xs : List ℕ) (t : ℕ) (a : NumSet) (n : ℕ) (c : Costs) : Type 0 where
+  pub caps : PlacedTo (place_cap p t a) n c.caps
+  pub ons : PlacedTo (place_on p (price_in xs) t a) n c.ons
+  pub offs : PlacedTo (place_off p (price_in xs) t a) n c.offs
+  pub outs : PlacedTo (place_out p t) n c.outs
+  pub clashes : PlacedTo (partners_in xs) n c.clashes
+  pub most : CostsInRange c
 
 -- ---- what is known of the units out
 

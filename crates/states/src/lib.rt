@@ -15,7 +15,6 @@ ghost use Rattle.states.specs.Choices.{ChoiceFloor};
 ghost use Rattle.states.specs.SearchTables.{CostsInRange, MOST_SCORE, places_of};
 ghost use Rattle.states.specs.Weeks.{SCALE, WeekNodeIs, WeekDue};
 
-use bounds::COSTS;
 use instance::Euro;
 use model::Layout;
 use tables::TABLES;
@@ -38,12 +37,27 @@ pub enum PlaceState {
     Out,
 }
 
-// The order in which a place takes its states.
+// What each unit of a week gives where it is ON, what its states cost, and the units with which it clashes; 0 behind the last unit.
 #[derive(Clone, Copy)]
-pub struct StateOrder {
-    pub first: PlaceState,
-    pub second: PlaceState,
-    pub third: PlaceState,
+pub struct Costs {
+    pub caps: [u64; 16],
+    pub ons: [u64; 16],
+    pub offs: [u64; 16],
+    pub outs: [u64; 16],
+    pub clashes: [u32; 16],
+}
+
+// What bounds are made of, at place k for the places below k: sums of what they give, of idle costs, gains and flat costs, and of idle costs and gains
+// where places are counted; and in row k of the last at place j what any j of them give at most.
+#[derive(Clone, Copy)]
+pub struct Sums {
+    pub rooms: [u64; 17],
+    pub idles: [u64; 17],
+    pub gains: [u64; 17],
+    pub flats: [u64; 17],
+    pub counted_idles: [u64; 17],
+    pub counted_gains: [u64; 17],
+    pub tops: [[u64; 17]; 17],
 }
 
 // What bounds are taken at: what a kilogram is worth, and what a place that is OUT is charged; the same where places are counted and not weighed; and
@@ -67,13 +81,6 @@ pub struct StateNode {
     pub out: u32,
 }
 
-// What comes of a place in a state: a node, where it is worth a look.
-#[derive(Clone, Copy)]
-pub struct StateChild {
-    pub worth: bool,
-    pub node: StateNode,
-}
-
 // The least so far, the nodes that may still be looked into, and the places OUT in the best choice met.
 #[derive(Clone, Copy)]
 pub struct StateFound {
@@ -82,11 +89,11 @@ pub struct StateFound {
     pub out: u32,
 }
 
-// What is seen of a node: that it is done with, and what is known then.
+// What is known once a node has been looked at: it is done with, or its highest place is still to be decided.
 #[derive(Clone, Copy)]
-pub struct NodeLooked {
-    pub done: bool,
-    pub found: StateFound,
+pub enum Looked {
+    Done(StateFound),
+    Open(StateFound),
 }
 
 // A week with some units out: the units that need no try, how many more crews allow, what it is worth at most, and the nodes to look into.
@@ -108,32 +115,23 @@ pub struct WeekFloor {
     pub fuel: u64,
 }
 
-// An amount as the search counts.
-fn scaled(most: Euro) -> u64
-    requires { most.0 * SCALE ≤ MOST_SCORE }
-    ensures { result ≡ most.0 * SCALE }
-{
-    most.0 * SCALE
-}
-
-// And back: rounded up, since what it bounds is a whole number of euros.
+// What the search counts as euros: rounded up, since what it bounds is a whole number of them.
 fn unscaled(best: u64) -> Euro
     requires { best ≤ MOST_SCORE }
     ensures { result.0 * SCALE ≤ best + (SCALE - 1) }
 {
-    Euro((best + (SCALE - 1)) / SCALE)
+    Euro(best.div_ceil(SCALE))
 }
 
 // What every choice for the first places costs at least, or the best so far, if that is less, from a node whose barred places are never OUT. With fuel
 // enough it is what the cheapest costs.
-fn search(costs: &[u64; COSTS], units: usize, y: StateNode, low: StateFound) -> StateFound
+fn search(costs: &Costs, units: usize, y: StateNode, low: StateFound) -> StateFound
     requires { CostsInRange costs.now × (units ≤ 16) × (y.crews ≤ 16) × (low.best ≤ MOST_SCORE) }
     ensures answer { ChoiceFloor (places_of costs.now y.bar) units y.need y.crews (has y.bar) y.score result.best }
     ensures less { result.best ≤ low.best }
 {
     let tops = totals::week_tops(costs);
-    let crews = y.crews as usize;
-    let a = rating::advise(costs, &tops, units, y.bar, y.need, crews);
+    let a = rating::advise(costs, &tops, units, y.bar, y.need, y.crews as usize);
     let sums = totals::week_sums(costs, tops, a);
     walk::walk(costs, &sums, a, units, y, low)
 }
@@ -143,11 +141,7 @@ fn crews_left(words: &[u32], l: Layout, room: usize) -> u64
     requires { Filed words.now l }
     ensures { (result ≤ 16) × (result ≤ room) × ((result ≡ room) ⊎ (result ≡ (problem_of words.now).crews)) }
 {
-    let crews = instance::crews(words, l);
-    if room < crews {
-        return room as u64;
-    }
-    crews as u64
+    room.min(instance::crews(words, l)) as u64
 }
 
 // A week before any unit is decided.
@@ -155,11 +149,9 @@ fn week_node(words: &[u32], l: Layout, w: WeekTask) -> StateNode
     requires { Filed words.now l × (w.week < l.weeks) }
     ensures { WeekNodeIs (problem_of words.now) w result }
 {
-    let need = instance::demand(words, l, w.week).0;
-    let crews = crews_left(words, l, w.room);
     StateNode {
-        need,
-        crews,
+        need: instance::demand(words, l, w.week).0,
+        crews: crews_left(words, l, w.room),
         bar: w.shut,
         score: 0,
         out: w.out,
@@ -175,9 +167,8 @@ pub fn week_least(words: &[u32], l: Layout, tables: &[u32; TABLES], w: WeekTask)
 {
     let costs = places::week_costs(words, l, tables, w.week, w.out);
     let y = week_node(words, l, w);
-    let best = scaled(w.most);
     let low = StateFound {
-        best,
+        best: w.most.0 * SCALE,
         fuel: w.fuel,
         out: w.out,
     };

@@ -4,11 +4,10 @@ ghost use Rattle.sums.specs.NumSet.{has};
 ghost use Rattle.model.specs.Words.{problem_of};
 ghost use Rattle.instance.specs.Filed.{Filed};
 ghost use Rattle.tables.specs.Tables.{price_in, Prices};
-ghost use Rattle.states.specs.SearchTables.{COSTS, MOST_CAP, MOST_COST};
-ghost use Rattle.states.specs.Weeks.{place_cap, place_on, place_off, place_out, PlaceNumber, PlacesTo};
+ghost use Rattle.states.specs.SearchTables.{MOST_CAP, MOST_COST};
+ghost use Rattle.states.specs.Weeks.{place_cap, place_on, place_off, place_out, PlacesTo};
 
-use crate::SCALE;
-use crate::bounds::{CAPS, COSTS, OFFS, ONS, OUTS};
+use crate::{Costs, SCALE};
 use model::Layout;
 use tables::TABLES;
 
@@ -56,51 +55,24 @@ fn place_out(words: &[u32], l: Layout, t: usize, i: usize) -> u64
     instance::off_cost(words, l, t, i).0 * SCALE
 }
 
-// The number in a row of the costs at place i.
-fn place_number(
-    words: &[u32],
-    l: Layout,
-    tables: &[u32; TABLES],
-    t: usize,
-    out: u32,
-    row: usize,
-    i: usize,
-) -> u64
-    requires { Filed words.now l × (t < l.weeks) × Prices tables.now × (row < 5) }
-    ensures { PlaceNumber (problem_of words.now) tables.now t (has out) row i result }
-{
-    if l.units <= i {
-        return 0;
-    }
-    if row == CAPS {
-        return place_cap(words, l, t, out, i);
-    }
-    if row == ONS {
-        return place_on(words, l, tables, t, out, i);
-    }
-    if row == OFFS {
-        return place_off(words, l, tables, t, out, i);
-    }
-    if row == OUTS {
-        return place_out(words, l, t, i);
-    }
-    tables::partners(tables, i) as u64
-}
-
 // The costs of a week with these units out.
-pub fn week_costs(
-    words: &[u32],
-    l: Layout,
-    tables: &[u32; TABLES],
-    t: usize,
-    out: u32,
-) -> [u64; COSTS]
+pub fn week_costs(words: &[u32], l: Layout, tables: &[u32; TABLES], t: usize, out: u32) -> Costs
     requires { Filed words.now l × (t < l.weeks) × Prices tables.now }
-    ensures { PlacesTo (problem_of words.now) tables.now t (has out) COSTS result }
+    ensures { PlacesTo (problem_of words.now) tables.now t (has out) l.units result }
 {
-    let mut costs: [u64; COSTS] = [0; COSTS];
-    for k in 0..COSTS {
-        costs[k] = place_number(words, l, tables, t, out, k / 16, k % 16);
+    let mut costs = Costs {
+        caps: [0; 16],
+        ons: [0; 16],
+        offs: [0; 16],
+        outs: [0; 16],
+        clashes: [0; 16],
+    };
+    for i in 0..l.units {
+        costs.caps[i] = place_cap(words, l, t, out, i);
+        costs.ons[i] = place_on(words, l, tables, t, out, i);
+        costs.offs[i] = place_off(words, l, tables, t, out, i);
+        costs.outs[i] = place_out(words, l, t, i);
+        costs.clashes[i] = tables::partners(tables, i);
     }
     costs
 }

@@ -5,23 +5,39 @@ use Rattle.memo.proofs.EntryLaws.{others_same, others_trans}
 use Rattle.sums.proofs.TableLaws.{at_most_start}
 use Rattle.prices.proofs.ascend.Goals as goal
 
-pub loop-n-init : goal.loop-n-init
-loop-n-init c = (search rules, search rules, search rules, search rules, at_most_start PLACES LEVEL MOST_PUSH (search rules), search rules, search rules, search others_same, search rules)
+pub loop-init : goal.loop-init
+loop-init c = record {
+  progress = search rules;
+  tables = search rules;
+  push = at_most_start PLACES LEVEL MOST_PUSH (search rules);
+  best = search rules;
+  right = search rules;
+  others = search others_same;
+  long = search rules;
+}
 
-pub run_round-root-requires : goal.run_round-root-requires
-run_round-root-requires c = (search rules, search rules, search rules, search rules)
+pub run_round-requires : goal.run_round-requires
+run_round-requires c = (c.loop.invariant.tables, c.loop.invariant.push, c.loop.invariant.progress, c.loop.invariant.right)
 
-pub returns-then-root-ge-NO_BOUND : goal.returns-then-root-ge-NO_BOUND
-returns-then-root-ge-NO_BOUND c = record { answer = search rules; right = (search rules, search others_trans) }
+pub returns-in_default : goal.returns-in_default
+returns-in_default c = record { answer = c.loop.invariant.best.priced; right = (search rules, search others_trans) }
 
 pub keep_or_restart-s-requires : goal.keep_or_restart-s-requires
-keep_or_restart-s-requires c = (search rules, search rules, search rules)
+keep_or_restart-s-requires c = (c.in-Some.ensures.bound, c.loop.invariant.progress, c.run_round.ensures.ranges.1)
 
 pub returns-then-s-lt-LEAST_REACH : goal.returns-then-s-lt-LEAST_REACH
 returns-then-s-lt-LEAST_REACH c = record { answer = search priced_chosen; right = (search rules, search others_trans) }
 
-pub loop-n-preserved : goal.loop-n-preserved
-loop-n-preserved c = (search rules, search rules, search rules, search priced_either, search rules, search priced_either, search rules, search others_trans, search rules)
+pub loop-preserved : goal.loop-preserved
+loop-preserved c = record {
+  progress = search rules;
+  tables = search priced_either;
+  push = search rules;
+  best = search priced_either;
+  right = search rules;
+  others = search others_trans;
+  long = search rules;
+}
 
-pub returns : goal.returns
-returns c = record { answer = search rules; right = (search rules, search rules) }
+pub returns-after-loop : goal.returns-after-loop
+returns-after-loop c = record { answer = c.loop.invariant.best.priced; right = (c.loop.invariant.right, c.loop.invariant.others) }

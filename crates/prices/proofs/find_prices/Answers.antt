@@ -6,11 +6,11 @@ use Rattle.tables.proofs.TableLaws.{first_priced}
 use Rattle.memo.proofs.EntryLaws.{others_trans}
 use Rattle.prices.proofs.find_prices.Goals as goal
 
-pub solve_relaxation-root-requires : goal.solve_relaxation-root-requires
-solve_relaxation-root-requires c = (search priced_first, search rules)
+pub solve_relaxation-requires : goal.solve_relaxation-requires
+solve_relaxation-requires c = (search priced_first, search rules)
 
-pub returns-then-root-ge-NO_BOUND : goal.returns-then-root-ge-NO_BOUND
-returns-then-root-ge-NO_BOUND c = record { answer = search first_priced; right = search rules }
+pub returns-in_default : goal.returns-in_default
+returns-in_default c = record { answer = search first_priced; right = search rules }
 
 pub ascend-best-requires : goal.ascend-best-requires
 ascend-best-requires c = (search priced_first, search rules, search rules)

@@ -2,11 +2,10 @@
 -- Assumes nothing.
 use Rattle.std.proofs.Common.{rules}
 use Rattle.states.proofs.WeekLaws.{week_answer, week_less, best_fits}
-use Rattle.states.proofs.PlaceLaws.{costs_in_range}
 use Rattle.states.proofs.week_least.Goals as goal
 
 pub search-found-requires : goal.search-found-requires
-search-found-requires c = (search costs_in_range, search rules, search rules, search rules)
+search-found-requires c = (search rules, search rules, search rules, search rules)
 
 pub unscaled-requires : goal.unscaled-requires
 unscaled-requires c = search best_fits

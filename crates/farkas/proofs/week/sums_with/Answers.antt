@@ -2,7 +2,7 @@
 -- Assumes nothing.
 use Rattle.std.proofs.Common.{rules}
 use Rattle.sums.specs.Table.{entry}
-use Rattle.farkas.proofs.SumsLaws.{sums_few, prices_fit, opens_fit, caps_fit, added}
+use Rattle.farkas.proofs.SumsLaws.{sums_few, prices_fit, opens_fit, caps_fit, larger_of, added}
 use Rattle.farkas.proofs.week.sums_with.Goals as goal
 
 pub open_price-open-requires : goal.open_price-open-requires
@@ -23,4 +23,4 @@ overflow_add-result-3 c = search caps_fit
 
 pub returns : goal.returns
 unfolding entry
-returns c = search added
+returns c = search (added, larger_of)

@@ -3,8 +3,8 @@
 use Rattle.prices.proofs.RangeLaws.{span_before, span_after}
 use Rattle.prices.proofs.momentum.in_overhaul.Goals as goal
 
-pub returns-then-t-first : goal.returns-then-t-first
-returns-then-t-first c = search span_before
+pub returns-then-first-t : goal.returns-then-first-t
+returns-then-first-t c = search span_after
 
-pub returns : goal.returns
-returns c = search span_after
+pub returns-else-first-t : goal.returns-else-first-t
+returns-else-first-t c = search span_before

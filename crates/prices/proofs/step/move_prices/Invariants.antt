@@ -1,11 +1,7 @@
 -- `prices::step::move_prices` meets its contract: the prices of the weeks so far have moved.
 -- Assumes nothing.
-use Rattle.std.proofs.Common.{◌-◌, ◌≤◌}
 use Rattle.prices.specs.Ranges.{Moved}
 use Rattle.prices.proofs.step.move_prices.Given as goal
 
 abbrev pub invariant-loop-t : goal.invariant-loop-t
-invariant-loop-t l = (l.t ≤ l.weeks) × Moved l.initial.tables l.tables
-
-abbrev pub decreases-loop-t : goal.decreases-loop-t
-decreases-loop-t l = l.weeks - l.t
+invariant-loop-t l = Moved l.initial.tables l.tables

@@ -1,13 +1,12 @@
 -- `prices::wants::choose_weeks` meets its contract: the sum so far has less than 2^28 for each week, and the memo is right.
 -- Assumes nothing.
-use Rattle.std.proofs.Common.{length, ◌≡◌, ◌-◌, ◌*◌, ◌≤◌}
+use Rattle.std.proofs.Common.{length, ◌≡◌, ◌*◌, ◌≤◌}
 use Rattle.memo.specs.Memo.{Right, Others}
 use Rattle.model.specs.Commitment.{NO_RUN}
 use Rattle.model.specs.Words.{problem_of}
 use Rattle.prices.proofs.wants.choose_weeks.Given as goal
 
 abbrev pub invariant-loop-t : goal.invariant-loop-t
-invariant-loop-t l = (l.t ≤ l.weeks) × (l.weeks ≤ 52) × (l.sum.0 ≤ NO_RUN * l.t) × Right (problem_of l.words) l.memo × Others l.initial.memo l.memo × (length l.memo ≡ length l.initial.memo)
-
-abbrev pub decreases-loop-t : goal.decreases-loop-t
-decreases-loop-t l = l.weeks - l.t
+invariant-loop-t l =
+    (l.l.weeks ≤ 52) × (l.sum.0 ≤ NO_RUN * l.t) × Right (problem_of l.words) l.memo × Others l.initial.memo l.memo
+    × (length l.memo ≡ length l.initial.memo)

@@ -1,11 +1,12 @@
--- `states::bounds::flat_bound` meets its contract: a sum of the table in the bound by the price.
+-- `states::bounds::flat_bound` meets its contract: product and sum fit; a price for each place OUT bounds.
 -- Assumes nothing.
 use Rattle.std.proofs.Common.{rules}
+use Rattle.states.proofs.RangeLaws.{flat_fits}
 use Rattle.states.proofs.TableLaws.{by_flat, flat_under}
 use Rattle.states.proofs.bounds.flat_bound.Goals as goal
 
-pub flattened-requires : goal.flattened-requires
-flattened-requires c = (search rules, search flat_under, search rules, search rules)
+pub overflow_add-y : goal.overflow_add-y
+overflow_add-y c = search (rules, flat_fits, flat_under)
 
 pub returns : goal.returns
 returns c = search by_flat

@@ -7,7 +7,7 @@ pub returns-in-On : goal.returns-in-On
 returns-in-On c = search comes_on
 
 pub returns-in-Off : goal.returns-in-Off
-returns-in-Off c = search comes_off
+returns-in-Off c = comes_off _ _ _ _ _ c.in-Off.is c.child_off.ensures
 
 pub returns-in-Out : goal.returns-in-Out
-returns-in-Out c = search comes_out
+returns-in-Out c = comes_out _ _ _ _ _ c.in-Out.is c.child_out.ensures

@@ -1,10 +1,7 @@
--- `states::rating::lightest` meets its contract: a place, or none.
+-- `states::rating::lightest` meets its contract: the lightest so far is one that counts for something.
 -- Assumes nothing.
-use Rattle.std.proofs.Common.{◌-◌, ◌≤◌}
+use Rattle.std.proofs.Common.{◌<◌, IfSome, get_or}
 use Rattle.states.proofs.rating.lightest.Given as goal
 
 abbrev pub invariant-loop-k : goal.invariant-loop-k
-invariant-loop-k l = (l.k ≤ 16) × (l.best ≤ 16)
-
-abbrev pub decreases-loop-k : goal.decreases-loop-k
-decreases-loop-k l = 16 - l.k
+invariant-loop-k l = IfSome l.best (λ k. (k < 16) × (0 < get_or l.counts k 0))

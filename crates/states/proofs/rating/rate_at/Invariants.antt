@@ -1,11 +1,8 @@
--- `states::rating::rate_at` meets its contract: the last rate is in its range.
+-- `states::rating::rate_at` meets its contract: what the places so far count for, and a rate in its range.
 -- Assumes nothing.
-use Rattle.std.proofs.Common.{◌-◌, ◌*◌, ◌≤◌}
+use Rattle.std.proofs.Common.{◌*◌, ◌≤◌}
 use Rattle.states.specs.SearchTables.{MOST_CAP, MOST_COST}
 use Rattle.states.proofs.rating.rate_at.Given as goal
 
-abbrev pub invariant-loop-n : goal.invariant-loop-n
-invariant-loop-n l = (l.n ≤ 16) × (l.given ≤ MOST_CAP * l.n) × (l.rate ≤ MOST_COST)
-
-abbrev pub decreases-loop-n : goal.decreases-loop-n
-decreases-loop-n l = 16 - l.n
+abbrev pub invariant-loop : goal.invariant-loop
+invariant-loop l = (l.given ≤ MOST_CAP * l.counter) × (l.rate ≤ MOST_COST)

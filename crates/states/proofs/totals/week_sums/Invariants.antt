@@ -1,11 +1,7 @@
--- `states::totals::week_sums` meets its contract: the sums so far, row by row.
+-- `states::totals::week_sums` meets its contract: the sums so far, and the tops as they were.
 -- Assumes nothing.
-use Rattle.std.proofs.Common.{◌-◌, ◌≤◌}
-use Rattle.states.specs.SearchTables.{SumsTo}
+use Rattle.states.specs.SearchTables.{AllSumsTo, TopsTo, places_of}
 use Rattle.states.proofs.totals.week_sums.Given as goal
 
-abbrev pub invariant-loop-n : goal.invariant-loop-n
-invariant-loop-n l = (l.n ≤ 96) × SumsTo l.costs l.sums l.a l.n
-
-abbrev pub decreases-loop-n : goal.decreases-loop-n
-decreases-loop-n l = 96 - l.n
+abbrev pub invariant-loop-i : goal.invariant-loop-i
+invariant-loop-i l = record { sums : AllSumsTo (places_of l.costs l.a.shut) l.a l.i l.sums; tops : TopsTo l.costs 16 l.sums.tops }

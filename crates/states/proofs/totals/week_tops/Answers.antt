@@ -1,15 +1,12 @@
-use Rattle.std.proofs.Common.{rules}
-use Rattle.states.proofs.TotalLaws.{tops_start, top_small, cap_small, tops_next, tops_ended}
+use Rattle.std.proofs.Common.{refl, rules}
+use Rattle.states.proofs.TotalLaws.{tops_start, tops_more, row_small}
 use Rattle.states.proofs.totals.week_tops.Goals as goal
 
-pub loop-n-init : goal.loop-n-init
-loop-n-init c = (search rules, search tops_start)
+pub loop-k-init : goal.loop-k-init
+loop-k-init c = tops_start _ _ refl refl
 
-pub next_top-requires : goal.next_top-requires
-next_top-requires c = (search rules, search rules, search top_small, search cap_small)
+pub next_tops-requires : goal.next_tops-requires
+next_tops-requires c = (search row_small, search rules)
 
-pub loop-n-preserved : goal.loop-n-preserved
-loop-n-preserved c = (search rules, search tops_next)
-
-pub returns : goal.returns
-returns c = search tops_ended
+pub loop-k-preserved : goal.loop-k-preserved
+loop-k-preserved c = search (rules, tops_more)
