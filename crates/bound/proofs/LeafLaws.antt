@@ -12,12 +12,11 @@ use Rattle.sums.proofs.SumLaws.{sum_same}
 use Rattle.sums.proofs.NumSetLaws.{pick_agree}
 use Rattle.sums.proofs.LoopLaws.{sum_next}
 use Rattle.sets.specs.Sets.{SETS}
-use Rattle.model.specs.declared.Layout.{Layout}
 use Rattle.model.specs.Problem.{Problem}
 use Rattle.model.specs.Schedule.{out_in}
 use Rattle.model.specs.Commitment.{NO_RUN, out_cost, least_cost}
-use Rattle.model.specs.Words.{problem_of}
-use Rattle.instance.specs.Filed.{Filed}
+use Rattle.instance.specs.declared.file.File.{File}
+use Rattle.instance.specs.File.{problem}
 use Rattle.commitment.specs.declared.Tally.{Tally}
 use Rattle.commitment.specs.Tally.{Tallies}
 use Rattle.blame.specs.Placed.{week_paid, paid}
@@ -25,22 +24,22 @@ use Rattle.blame.proofs.PlacedLaws.{least_same}
 use Rattle.bound.specs.Rows.{MOST_OUT, MOST_WEEK, tally_of, RowsOfAll}
 use Rattle.bound.proofs.RowLaws.{out_small}
 
-module _ (ws : List ℕ) (l : Layout) (t word : ℕ) (y : Tally) (f : Filed ws l) (h : t < l.weeks) (e : y ≡ tally_of word)
-    (w : Tallies (problem_of ws) t (tally_of word)) where
+module _ (file : File) (t word : ℕ) (y : Tally) (h : t < file.layout.weeks) (e : y ≡ tally_of word)
+    (w : Tallies (problem file) t (tally_of word)) where
   -- a week: the maintenance of the units out, and a run of the others
-  pub week_paid_lem : (v r : ℕ) → v ≡ least_cost (problem_of ws) t (has y.out) → r ≡ y.cost.0 + v
-      → r ≡ out_cost (problem_of ws) t (has (word % SETS)) + least_cost (problem_of ws) t (has (word % SETS))
+  pub week_paid_lem : (v r : ℕ) → v ≡ least_cost (problem file) t (has y.out) → r ≡ y.cost.0 + v
+      → r ≡ out_cost (problem file) t (has (word % SETS)) + least_cost (problem file) t (has (word % SETS))
   week_paid_lem v r ev er =
-      let a : y.cost.0 ≡ out_cost (problem_of ws) t (has (word % SETS)) = ap (λ (x : Tally). x.cost.0) e ∙ w.sum in
-      let b : least_cost (problem_of ws) t (has y.out) ≡ least_cost (problem_of ws) t (has (word % SETS))
-      = ap (λ (x : Tally). least_cost (problem_of ws) t (has x.out)) e in
+      let a : y.cost.0 ≡ out_cost (problem file) t (has (word % SETS)) = ap (λ (x : Tally). x.cost.0) e ∙ w.sum in
+      let b : least_cost (problem file) t (has y.out) ≡ least_cost (problem file) t (has (word % SETS))
+      = ap (λ (x : Tally). least_cost (problem file) t (has x.out)) e in
       omega arith
 
   -- both are small
   out_most : y.cost.0 ≤ MOST_OUT
   out_most =
-      let a : y.cost.0 ≡ out_cost (problem_of ws) t (has (word % SETS)) = ap (λ (x : Tally). x.cost.0) e ∙ w.sum in
-      omega (arith, out_small ws l f (has (word % SETS)) t h)
+      let a : y.cost.0 ≡ out_cost (problem file) t (has (word % SETS)) = ap (λ (x : Tally). x.cost.0) e ∙ w.sum in
+      omega (arith, out_small file (has (word % SETS)) t h)
 
   -- and fit a word together
   pub paid_fits : (v : ℕ) → v ≤ NO_RUN → y.cost.0 + v < 18446744073709551616
@@ -60,13 +59,13 @@ unfolding row_paid
 paid_more p rows t s v r hs hv hr = sum_next (row_paid p rows) t s v r hs hv hr
 
 -- all of them
-pub paid_ended : (ws : List ℕ) (l : Layout) (rows starts : List ℕ) (t weeks r : ℕ) → Filed ws l
-    → RowsOfAll (problem_of ws) (entry starts) rows → weeks ≡ l.weeks → t ≤ weeks → weeks ≤ t
-    → r ≡ sum_to t (row_paid (problem_of ws) rows) → r ≡ paid (problem_of ws) (out_in (problem_of ws) (entry starts))
+pub paid_ended : (file : File) (rows starts : List ℕ) (t weeks r : ℕ) 
+    → RowsOfAll (problem file) (entry starts) rows → weeks ≡ file.layout.weeks → t ≤ weeks → weeks ≤ t
+    → r ≡ sum_to t (row_paid (problem file) rows) → r ≡ paid (problem file) (out_in (problem file) (entry starts))
 unfolding paid week_paid row_paid out_cost
-paid_ended ws l rows starts t weeks r f h e a b is =
-    let p = problem_of ws in
-    let n : t ≡ p.weeks = omega (arith, f.weeks_are) in
+paid_ended file rows starts t weeks r h e a b is =
+    let p = problem file in
+    let n : t ≡ p.weeks = omega (arith, file.filed.weeks_are) in
     is ∙ ap (λ (k : ℕ). sum_to k (row_paid p rows)) n
     ∙ sum_same p.weeks (row_paid p rows) (week_paid p (out_in p (entry starts))) (λ q m. omega (
       arith,
@@ -75,6 +74,6 @@ paid_ended ws l rows starts t weeks r f h e a b is =
     ))
 
 -- a row's tally
-pub row_tallies : (ws : List ℕ) (l : Layout) (rows : List ℕ) (starts : ℕ → ℕ) (t weeks : ℕ) → Filed ws l → RowsOfAll (problem_of ws) starts rows
-    → weeks ≡ l.weeks → t < weeks → Tallies (problem_of ws) t (tally_of (get_or rows t 0))
-row_tallies ws l rows starts t weeks f h e b = h.tallies t (omega (arith, f.weeks_are))
+pub row_tallies : (file : File) (rows : List ℕ) (starts : ℕ → ℕ) (t weeks : ℕ) → RowsOfAll (problem file) starts rows
+    → weeks ≡ file.layout.weeks → t < weeks → Tallies (problem file) t (tally_of (get_or rows t 0))
+row_tallies file rows starts t weeks h e b = h.tallies t (omega (arith, file.filed.weeks_are))

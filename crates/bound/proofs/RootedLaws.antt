@@ -16,12 +16,11 @@ use Rattle.sums.proofs.SumLaws.{sum_same}
 use Rattle.sums.proofs.RangeLaws.{list_length, list_at}
 use Rattle.sums.proofs.NumSetLaws.{zero_has}
 use Rattle.sums.proofs.LoopLaws.{sum_next, place_next}
-use Rattle.model.specs.declared.Layout.{Layout}
 use Rattle.model.specs.Problem.{Problem}
 use Rattle.model.specs.Commitment.{NO_RUN, full_least}
-use Rattle.model.specs.Words.{problem_of}
 use Rattle.model.proofs.FileLaws.{fair}
-use Rattle.instance.specs.Filed.{Filed}
+use Rattle.instance.specs.declared.file.File.{File}
+use Rattle.instance.specs.File.{problem}
 use Rattle.blame.specs.Closed.{Closed}
 use Rattle.blame.specs.Placed.{out_of}
 use Rattle.blame.specs.Priced.{unit_bound, lower_bound, WeekLeast}
@@ -41,10 +40,10 @@ least_next us i s v r hs hv hr =
     sum_next (least_in us) i s v r hs (hv ∙ ap (λ (k : ℕ). get_or us k 0) z) hr
 
 -- of all units
-pub least_ended : (ws : List ℕ) (l : Layout) (us : List ℕ) (i units r : ℕ) → Filed ws l → units ≡ l.units → i ≤ units → units ≤ i
-    → r ≡ sum_to i (least_in us) → r ≡ sum_to (problem_of ws).units (least_in us)
-least_ended ws l us i units r f e a b h =
-    let q : i ≡ (problem_of ws).units = omega (arith, f.units_are) in h ∙ ap (λ (n : ℕ). sum_to n (least_in us)) q
+pub least_ended : (file : File) (us : List ℕ) (i units r : ℕ) → units ≡ file.layout.units → i ≤ units → units ≤ i
+    → r ≡ sum_to i (least_in us) → r ≡ sum_to (problem file).units (least_in us)
+least_ended file us i units r e a b h =
+    let q : i ≡ (problem file).units = omega (arith, file.filed.units_are) in h ∙ ap (λ (n : ℕ). sum_to n (least_in us)) q
 
 -- the first n weeks have a run with nobody out, and with the least of all overhauls they come to r
 pub record RootTo (p : Problem) (us : List ℕ) (n r : ℕ) : Type 0 where
@@ -73,38 +72,35 @@ root_next p us n r v s h e b is = record {
     by t l (yes q) = rw q (omega arith)
     by t l (no q) = h.served t (omega arith)
 
-module _ (ws : List ℕ) (l : Layout) (us : List ℕ) (limit : ℕ) (d : RootDue ws l us limit) where
+module _ (file : File) (us : List ℕ) (limit : ℕ) (d : RootDue file us limit) where
   abbrev p : Problem
-  p = problem_of ws
-
-  f : Filed ws l
-  f = d.filed
+  p = problem file
 
   nobody : {A : Type 0} (i : ℕ) → has 0 i ≡ true → A
   nobody i q = true_false (sym q ∙ zero_has i)
 
   -- a week that cannot be served: nobody is to blame
-  pub root_shut : (t weeks v : ℕ) → weeks ≡ l.weeks → t < weeks → v ≡ root_in us t → NO_RUN ≤ v → AllBlame (problem_of ws) limit 0
+  pub root_shut : (t weeks v : ℕ) → weeks ≡ file.layout.weeks → t < weeks → v ≡ root_in us t → NO_RUN ≤ v → AllBlame (problem file) limit 0
   root_shut t weeks v is h e m =
-      let in_season : t < p.weeks = omega (arith, f.weeks_are) in
+      let in_season : t < p.weeks = omega (arith, file.filed.weeks_are) in
       record {
         each = λ starts. record {
-          closed = demand_closed p (has 0) starts t (fair ws f.passed) in_season (λ i _ q. nobody i q)
+          closed = demand_closed p (has 0) starts t (fair file.words.now file.filed.passed) in_season (λ i _ q. nobody i q)
               ((d.dual.roots.each t in_season).none (omega arith)) limit;
           within = λ i q. nobody i q;
         };
       }
 
-  module _ (t weeks r : ℕ) (h : RootTo (problem_of ws) us t r) (e : weeks ≡ l.weeks) (a : t ≤ weeks) (b : weeks ≤ t) where
-    all_weeks : t ≡ (problem_of ws).weeks
-    all_weeks = omega (arith, f.weeks_are)
+  module _ (t weeks r : ℕ) (h : RootTo (problem file) us t r) (e : weeks ≡ file.layout.weeks) (a : t ≤ weeks) (b : weeks ≤ t) where
+    all_weeks : t ≡ (problem file).weeks
+    all_weeks = omega (arith, file.filed.weeks_are)
 
-    none_out : (starts : ℕ → ℕ) (q i : ℕ) → out_of (problem_of ws) (has 0) starts q i ≡ false
+    none_out : (starts : ℕ → ℕ) (q i : ℕ) → out_of (problem file) (has 0) starts q i ≡ false
     none_out starts q i = out_none p (has 0) starts q i (zero_has i)
 
     -- the bound of nobody, with any values that are those of the roots
-    root_bounds : (starts : ℕ → ℕ) (xs : List ℕ) → length xs ≡ 52 → ((q : ℕ) → q < (problem_of ws).weeks → entry xs q ≡ root_in us q)
-        → Bounds (problem_of ws) us (has 0) starts xs r
+    root_bounds : (starts : ℕ → ℕ) (xs : List ℕ) → length xs ≡ 52 → ((q : ℕ) → q < (problem file).weeks → entry xs q ≡ root_in us q)
+        → Bounds (problem file) us (has 0) starts xs r
     unfolding lower_bound unit_bound
     root_bounds starts xs long same = record {
       values = record {
@@ -121,19 +117,19 @@ module _ (ws : List ℕ) (l : Layout) (us : List ℕ) (limit : ℕ) (d : RootDue
     }
 
     -- it comes to what is wanted: nothing is left
-    pub root_blames : (wanted : ℕ) → wanted ≡ limit + total_in us → wanted ≤ r → AllBlame (problem_of ws) limit 0
+    pub root_blames : (wanted : ℕ) → wanted ≡ limit + total_in us → wanted ≤ r → AllBlame (problem file) limit 0
     unfolding entry
     root_blames wanted ew le = record { each = λ starts. record { closed = none_closed starts; within = λ i q. nobody i q } }
       where
-        none_closed : (starts : ℕ → ℕ) → Closed (problem_of ws) (has 0) starts limit
+        none_closed : (starts : ℕ → ℕ) → Closed (problem file) (has 0) starts limit
         none_closed starts =
             let front : List ℕ = list_to 52 (root_in us) in
-            bounds_closed p us (has 0) starts front r limit (fair ws f.passed) d.dual
+            bounds_closed p us (has 0) starts front r limit (fair file.words.now file.filed.passed) d.dual
             (root_bounds starts front (list_length 52 (root_in us))
-            (λ q m. list_at 52 (root_in us) q (omega (arith, f.weeks_are, f.weeks_most)))) (omega arith)
+            (λ q m. list_at 52 (root_in us) q (omega (arith, file.filed.weeks_are, file.filed.weeks_most)))) (omega arith)
 
     -- else it is the bound before any unit is placed
-    pub root_stands : (xs : List ℕ) → RootValues us xs → AllStand (problem_of ws) us xs r
+    pub root_stands : (xs : List ℕ) → RootValues us xs → AllStand (problem file) us xs r
     root_stands xs fr = record {
       each = λ starts. record {
         standing = record {
@@ -142,7 +138,7 @@ module _ (ws : List ℕ) (l : Layout) (us : List ℕ) (limit : ℕ) (d : RootDue
           served = λ q m. subst (λ (x : NumSet). full_least p q x < NO_RUN) (fun_ext (λ i. zero_has i ∙ sym (none_out starts q i)))
               ((d.dual.roots.each q m).serves (h.served q (omega (arith, all_weeks))));
         };
-        bounds = root_bounds starts xs fr.long (λ q m. fr.each q (omega (arith, f.weeks_are, f.weeks_most)));
+        bounds = root_bounds starts xs fr.long (λ q m. fr.each q (omega (arith, file.filed.weeks_are, file.filed.weeks_most)));
       };
     }
 

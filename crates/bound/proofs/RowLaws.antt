@@ -24,15 +24,14 @@ use Rattle.sums.proofs.RangeLaws.{none_at_lem, first_is}
 use Rattle.sums.proofs.LoopLaws.{zeros_at}
 use Rattle.sums.proofs.NumSetLaws.{sum_over, number_below, number_own, zero_has}
 use Rattle.sets.specs.Sets.{SETS}
-use Rattle.model.specs.declared.Layout.{Layout}
 use Rattle.model.specs.Problem.{Problem}
 use Rattle.model.specs.Rules.{headcount}
 use Rattle.model.specs.Schedule.{in_span, out_in}
 use Rattle.model.specs.Commitment.{out_cost}
-use Rattle.model.specs.Words.{problem_of}
 use Rattle.model.proofs.DomainLaws.{permits_from, permits_ends, span_from, span_below, span_of}
 use Rattle.model.proofs.FileLaws.{ranged, fair}
-use Rattle.instance.specs.Filed.{Filed}
+use Rattle.instance.specs.declared.file.File.{File}
+use Rattle.instance.specs.File.{problem}
 use Rattle.commitment.specs.declared.Tally.{Tally}
 use Rattle.commitment.specs.Tally.{Tallies}
 use Rattle.commitment.proofs.TallyLaws.{tally_none}
@@ -96,44 +95,44 @@ word_tally y r g e =
     rw (a, b, c)
 
 -- how many are out, and what they cost in a week
-module _ (ws : List ℕ) (l : Layout) (f : Filed ws l) (out : NumSet) where
+module _ (file : File) (out : NumSet) where
   -- no more than 16
-  pub count_small : headcount (problem_of ws) out ≤ 16
+  pub count_small : headcount (problem file) out ≤ 16
   unfolding headcount counts_one
   count_small =
-      let p = problem_of ws in
+      let p = problem file in
       let b = sum_over p.units 1 out counts_one (λ i d. omega arith) in
-      omega (arith, (ranged ws f.passed).units_most)
+      omega (arith, (ranged file.words.now file.filed.passed).units_most)
 
   -- no more than 16 times the dearest
-  pub out_small : (t : ℕ) → t < l.weeks → out_cost (problem_of ws) t out ≤ MOST_OUT
+  pub out_small : (t : ℕ) → t < file.layout.weeks → out_cost (problem file) t out ≤ MOST_OUT
   unfolding out_cost
   out_small t h =
-      let p = problem_of ws in
-      let g = ranged ws f.passed in
-      let b = sum_over p.units 250000 out (p.maint t) (λ i d. g.maint_most t i (omega (arith, f.weeks_are)) d) in
+      let p = problem file in
+      let g = ranged file.words.now file.filed.passed in
+      let b = sum_over p.units 250000 out (p.maint t) (λ i d. g.maint_most t i (omega (arith, file.filed.weeks_are)) d) in
       omega (arith, mul-le-mul_right 250000 g.units_most)
 
 -- the tally that was read from a word is a right one
 pub tally_read : (p : Problem) (t word : ℕ) (y : Tally) → y ≡ tally_of word → Tallies p t (tally_of word) → Tallies p t y
 tally_read p t word y e w = subst (Tallies p t) (sym e) w
 
-module _ (ws : List ℕ) (l : Layout) (t i word : ℕ) (y z : Tally) (f : Filed ws l) (h : t < l.weeks) (hi : i < l.units) (e : y ≡ tally_of word)
-    (b : z.out < 4294967296) (w : Tallies (problem_of ws) t z) (j : (k : ℕ) → has z.out k ≡ (has y.out k || eqb k i)) where
+module _ (file : File) (t i word : ℕ) (y z : Tally) (h : t < file.layout.weeks) (hi : i < file.layout.units) (e : y ≡ tally_of word)
+    (b : z.out < 4294967296) (w : Tallies (problem file) t z) (j : (k : ℕ) → has z.out k ≡ (has y.out k || eqb k i)) where
   read_joined : (k : ℕ) → has z.out k ≡ (has (word % SETS) k || eqb k i)
   read_joined k = j k ∙ rw e
 
   -- the tally of a word with one unit more fits into a word
   pub packs_joined : Packs z
   packs_joined = record {
-    few = joined_small (word % SETS) z.out i (omega arith) b (omega (arith, f.units_most)) read_joined;
-    many = omega (arith, w.many, count_small ws l f (has z.out));
-    cheap = omega (arith, w.sum, out_small ws l f (has z.out) t h);
+    few = joined_small (word % SETS) z.out i (omega arith) b (omega (arith, file.filed.units_most)) read_joined;
+    many = omega (arith, w.many, count_small file (has z.out));
+    cheap = omega (arith, w.sum, out_small file (has z.out) t h);
   }
 
   -- which holds it
-  pub word_tallies : (r : ℕ) → r ≡ word_of z → Tallies (problem_of ws) t (tally_of r)
-  word_tallies r q = subst (Tallies (problem_of ws) t) (sym (word_tally z r packs_joined q)) w
+  pub word_tallies : (r : ℕ) → r ≡ word_of z → Tallies (problem file) t (tally_of r)
+  word_tallies r q = subst (Tallies (problem file) t) (sym (word_tally z r packs_joined q)) w
 
   -- with that unit
   pub word_joins : (r : ℕ) → r ≡ word_of z → RowJoins word i r
@@ -154,28 +153,28 @@ rows_none p starts rows e = record {
 
 -- ---- a unit to be placed
 
-module _ (ws : List ℕ) (l : Layout) (rows starts : List ℕ) (j : ℕ) (f : Filed ws l) (d : RowsDue (problem_of ws) rows (entry starts) j) where
+module _ (file : File) (rows starts : List ℕ) (j : ℕ) (d : RowsDue (problem file) rows (entry starts) j) where
   -- it is one of the file's
-  pub due_unit : j < l.units
-  due_unit = omega (arith, d.unit, f.units_are)
+  pub due_unit : j < file.layout.units
+  due_unit = omega (arith, d.unit, file.filed.units_are)
 
   -- one of 16
   pub due_few : j < 16
-  due_few = omega (arith, due_unit, f.units_most)
+  due_few = omega (arith, due_unit, file.filed.units_most)
 
   -- its start counts from 1
   pub due_some : 1 ≤ get_or starts j 0
   unfolding entry
-  due_some = omega (arith, permits_from (problem_of ws) j (entry starts j) d.permits, (fair ws f.passed).from_one j d.unit)
+  due_some = omega (arith, permits_from (problem file) j (entry starts j) d.permits, (fair file.words.now file.filed.passed).from_one j d.unit)
 
   -- its overhaul ends in the season
-  pub due_ends : (weeks : ℕ) → weeks ≡ (problem_of ws).duration j → get_or starts j 0 - 1 + weeks ≤ l.weeks
+  pub due_ends : (weeks : ℕ) → weeks ≡ (problem file).duration j → get_or starts j 0 - 1 + weeks ≤ file.layout.weeks
   unfolding entry
-  due_ends weeks e = omega (arith, due_some, permits_ends (problem_of ws) j (entry starts j) d.permits, f.weeks_are)
+  due_ends weeks e = omega (arith, due_some, permits_ends (problem file) j (entry starts j) d.permits, file.filed.weeks_are)
 
   -- the rows hold the tallies of its weeks
-  pub due_tally : (first k weeks : ℕ) → first + weeks ≤ l.weeks → k < weeks → Tallies (problem_of ws) (first + k) (tally_of (get_or rows (first + k) 0))
-  due_tally first k weeks e b = d.tallies (first + k) (omega (arith, f.weeks_are))
+  pub due_tally : (first k weeks : ℕ) → first + weeks ≤ file.layout.weeks → k < weeks → Tallies (problem file) (first + k) (tally_of (get_or rows (first + k) 0))
+  due_tally first k weeks e b = d.tallies (first + k) (omega (arith, file.filed.weeks_are))
 
 -- ---- rows with one unit more, a week at a time
 
@@ -198,20 +197,20 @@ rows_start p rows starts j first d = record {
 }
 
 -- one week more
-pub rows_next : (ws : List ℕ) (l : Layout) (rows next : List ℕ) (j first k weeks r : ℕ) → Filed ws l → RowsTo (problem_of ws) rows j first k next
-    → first + weeks ≤ l.weeks → k < weeks → Tallies (problem_of ws) (first + k) (tally_of r) → RowJoins (get_or rows (first + k) 0) j r
-    → RowsTo (problem_of ws) rows j first (k + 1) (set next (first + k) r)
-rows_next ws l rows next j first k weeks r f h end b w g = record {
+pub rows_next : (file : File) (rows next : List ℕ) (j first k weeks r : ℕ) → RowsTo (problem file) rows j first k next
+    → first + weeks ≤ file.layout.weeks → k < weeks → Tallies (problem file) (first + k) (tally_of r) → RowJoins (get_or rows (first + k) 0) j r
+    → RowsTo (problem file) rows j first (k + 1) (set next (first + k) r)
+rows_next file rows next j first k weeks r h end b w g = record {
   long = length-set next (first + k) r ∙ h.long;
   tallies = λ t d. tallies t d (ℕ_discrete t (first + k));
   sets = λ t d i. sets t d i (ℕ_discrete t (first + k));
 }
   where
     p : Problem
-    p = problem_of ws
+    p = problem file
 
     same : get_or (set next (first + k) r) (first + k) 0 ≡ r
-    same = get_or-set_same next (first + k) r 0 (omega (arith, h.long, f.weeks_most))
+    same = get_or-set_same next (first + k) r 0 (omega (arith, h.long, file.filed.weeks_most))
 
     other : (t : ℕ) → (t ≡ first + k → ⊥) → get_or (set next (first + k) r) t 0 ≡ get_or next t 0
     other t ne = get_or-set_other next (first + k) t r 0 ne
@@ -238,16 +237,16 @@ rows_next ws l rows next j first k weeks r f h end b w g = record {
         rw (other t e, x) (h.sets t d i)
 
 -- all weeks of its overhaul
-pub rows_ended : (ws : List ℕ) (l : Layout) (rows starts next : List ℕ) (j k weeks : ℕ) → Filed ws l → RowsDue (problem_of ws) rows (entry starts) j
-    → weeks ≡ (problem_of ws).duration j → k ≤ weeks → weeks ≤ k → RowsTo (problem_of ws) rows j (get_or starts j 0 - 1) k next
-    → RowsWith (problem_of ws) rows (entry starts) j next
+pub rows_ended : (file : File) (rows starts next : List ℕ) (j k weeks : ℕ) → RowsDue (problem file) rows (entry starts) j
+    → weeks ≡ (problem file).duration j → k ≤ weeks → weeks ≤ k → RowsTo (problem file) rows j (get_or starts j 0 - 1) k next
+    → RowsWith (problem file) rows (entry starts) j next
 unfolding out_in entry
-rows_ended ws l rows starts next j k weeks f d e a b h = record {
+rows_ended file rows starts next j k weeks d e a b h = record {
   long = h.long;
   tallies = h.tallies;
   sets = λ t m i.
-      let q : k ≡ (problem_of ws).duration j = omega arith in
-      let s : get_or starts j 0 - 1 + 1 ≡ get_or starts j 0 = omega (arith, due_some ws l rows starts j f d) in
+      let q : k ≡ (problem file).duration j = omega arith in
+      let s : get_or starts j 0 - 1 + 1 ≡ get_or starts j 0 = omega (arith, due_some file rows starts j d) in
       h.sets t m i ∙ rw (q, s);
 }
 

@@ -11,13 +11,12 @@ use Rattle.sums.specs.NumSet.{NumSet, has}
 use Rattle.sums.proofs.LoopLaws.{place_next}
 use Rattle.sums.proofs.NumSetLaws.{zero_has}
 use Rattle.sets.specs.Sets.{SETS}
-use Rattle.model.specs.declared.Layout.{Layout}
 use Rattle.model.specs.Problem.{Problem}
 use Rattle.model.specs.Schedule.{out_in}
 use Rattle.model.specs.Commitment.{run_cost, Pick, nothing, picked, IsPick, Serves, cheapest_run}
-use Rattle.model.specs.Words.{problem_of}
 use Rattle.model.proofs.CommitmentLaws.{cheapest_right, cheapest_picked, none_picked, fewer_out}
-use Rattle.instance.specs.Filed.{Filed}
+use Rattle.instance.specs.declared.file.File.{File}
+use Rattle.instance.specs.File.{problem}
 use Rattle.commitment.specs.declared.BestRun.{BestRun}
 use Rattle.commitment.specs.declared.BestRun.TheVariants.{Nothing, Run}
 use Rattle.commitment.specs.Answers.{Answers}
@@ -71,10 +70,10 @@ placed_none p starts rows e =
     subst (λ (b : NumSet). Rows p (out_of p b starts) rows) (fun_ext (λ i. zero_has i ∙ sym (le-ltb i 0 (omega arith)))) (rows_none p starts rows e)
 
 -- the next unit is to be placed
-pub placed_due : (ws : List ℕ) (l : Layout) (rows : List ℕ) (starts : ℕ → ℕ) (j units : ℕ) → Filed ws l → Permits (problem_of ws) starts
-    → Rows (problem_of ws) (out_of (problem_of ws) (first_units j) starts) rows → units ≡ l.units → j < units → RowsDue (problem_of ws) rows starts j
-placed_due ws l rows starts j units f g h e b =
-    let u : j < (problem_of ws).units = omega (arith, f.units_are) in
+pub placed_due : (file : File) (rows : List ℕ) (starts : ℕ → ℕ) (j units : ℕ) → Permits (problem file) starts
+    → Rows (problem file) (out_of (problem file) (first_units j) starts) rows → units ≡ file.layout.units → j < units → RowsDue (problem file) rows starts j
+placed_due file rows starts j units g h e b =
+    let u : j < (problem file).units = omega (arith, file.filed.units_are) in
     record { unit = u; permits = g.each j u; long = h.long; tallies = h.tallies }
 
 -- it is
@@ -91,11 +90,11 @@ rows_all p rows b starts h all =
     record { long = h.long; tallies = h.tallies; sets = λ t m i k. h.sets t m i ∙ rw (all i k) }
 
 -- all of them
-pub placed_all : (ws : List ℕ) (l : Layout) (rows : List ℕ) (starts : ℕ → ℕ) (j units : ℕ) → Filed ws l
-    → Rows (problem_of ws) (out_of (problem_of ws) (first_units j) starts) rows → units ≡ l.units → units ≤ j → RowsOfAll (problem_of ws) starts rows
+pub placed_all : (file : File) (rows : List ℕ) (starts : ℕ → ℕ) (j units : ℕ) 
+    → Rows (problem file) (out_of (problem file) (first_units j) starts) rows → units ≡ file.layout.units → units ≤ j → RowsOfAll (problem file) starts rows
 unfolding first_units
-placed_all ws l rows starts j units f h e b =
-    rows_all (problem_of ws) rows (first_units j) starts h (λ i k. lt-ltb i j (omega (arith, f.units_are)))
+placed_all file rows starts j units h e b =
+    rows_all (problem file) rows (first_units j) starts h (λ i k. lt-ltb i j (omega (arith, file.filed.units_are)))
 
 -- ---- a table of runs
 
@@ -115,11 +114,11 @@ runs_next p rows table t weeks r h long b few e = record {
 }
 
 -- all of them
-pub runs_ended : (ws : List ℕ) (l : Layout) (rows table : List ℕ) (starts : ℕ → ℕ) (t weeks : ℕ) → Filed ws l → RowsOfAll (problem_of ws) starts rows
-    → RunsTo (problem_of ws) rows t table → weeks ≡ l.weeks → weeks ≤ t → RunsOf (problem_of ws) starts table
+pub runs_ended : (file : File) (rows table : List ℕ) (starts : ℕ → ℕ) (t weeks : ℕ) → RowsOfAll (problem file) starts rows
+    → RunsTo (problem file) rows t table → weeks ≡ file.layout.weeks → weeks ≤ t → RunsOf (problem file) starts table
 unfolding run_at
-runs_ended ws l rows table starts t weeks f g h e b = record {
+runs_ended file rows table starts t weeks g h e b = record {
   each = λ q m.
-      let d : q < t = omega (arith, f.weeks_are) in
-      h.each q d ∙ ap run_of (run_same (problem_of ws) q (has (get_or rows q 0 % SETS)) (out_in (problem_of ws) starts q) (g.sets q m));
+      let d : q < t = omega (arith, file.filed.weeks_are) in
+      h.each q d ∙ ap run_of (run_same (problem file) q (has (get_or rows q 0 % SETS)) (out_in (problem file) starts q) (g.sets q m));
 }

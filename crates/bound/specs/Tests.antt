@@ -5,7 +5,6 @@ use Rattle.sums.specs.Range.{some_to}
 use Rattle.sums.specs.NumSet.{NumSet, has, with}
 use Rattle.sums.specs.Table.{entry}
 use Rattle.sets.specs.Sets.{SETS}
-use Rattle.model.specs.declared.Layout.{Layout}
 use Rattle.model.specs.Problem.{Problem}
 use Rattle.model.specs.Domain.{permitted, start_count}
 use Rattle.model.specs.Rules.{headcount}
@@ -13,9 +12,9 @@ use Rattle.model.specs.Schedule.{out_in}
 use Rattle.model.specs.Commitment.{full_least, NO_RUN}
 use Rattle.model.specs.Plan.{Compatible}
 use Rattle.model.specs.Nogood.{MOST_LIMIT}
-use Rattle.model.specs.Words.{problem_of}
+use Rattle.instance.specs.declared.file.File.{File}
+use Rattle.instance.specs.File.{problem}
 use Rattle.instance.specs.declared.Euro.{Euro}
-use Rattle.instance.specs.Filed.{Filed}
 use Rattle.commitment.specs.Tally.{Tallies}
 use Rattle.blame.specs.Closed.{Closed}
 use Rattle.blame.specs.Placed.{out_of, partly, Standing, run_at}
@@ -151,48 +150,43 @@ abbrev pub with_start : List ℕ → Node → Node
 with_start us node = with_bound node (record { 0 = node.bound.0 + excess_in us node.unit (entry node.starts node.unit) })
 
 -- before the weeks of an overhaul: the node's unit is due, those placed stand, and the node's bound has its start in it
-pub record StartDue (ws : List ℕ) (l : Layout) (us rows : List ℕ) (node : Node) (xs memo : List ℕ) : Type 0 where
-  pub filed : Filed ws l
-  pub dual : Dual (problem_of ws) us
-  pub due : Due (problem_of ws) rows (has node.placed) (entry node.starts) node.unit
-  pub standing : Standing (problem_of ws) (has node.placed) (entry node.starts)
-  pub bounds : Bounds (problem_of ws) us (placed_after node) (entry node.starts) xs node.bound.0
-  pub recalls : MemoTrue (problem_of ws) (price_in us) memo
+pub record StartDue (file : File) (us rows : List ℕ) (node : Node) (xs memo : List ℕ) : Type 0 where
+  pub dual : Dual (problem file) us
+  pub due : Due (problem file) rows (has node.placed) (entry node.starts) node.unit
+  pub standing : Standing (problem file) (has node.placed) (entry node.starts)
+  pub bounds : Bounds (problem file) us (placed_after node) (entry node.starts) xs node.bound.0
+  pub recalls : MemoTrue (problem file) (price_in us) memo
 
 -- before week t of it: the weeks before are tested, at the node's bound
-pub record WeeksDue (ws : List ℕ) (l : Layout) (us rows : List ℕ) (node : Node) (t : ℕ) (xs memo : List ℕ) : Type 0 where
-  pub filed : Filed ws l
-  pub dual : Dual (problem_of ws) us
-  pub due : Due (problem_of ws) rows (has node.placed) (entry node.starts) node.unit
-  pub standing : Standing (problem_of ws) (has node.placed) (entry node.starts)
+pub record WeeksDue (file : File) (us rows : List ℕ) (node : Node) (t : ℕ) (xs memo : List ℕ) : Type 0 where
+  pub dual : Dual (problem file) us
+  pub due : Due (problem file) rows (has node.placed) (entry node.starts) node.unit
+  pub standing : Standing (problem file) (has node.placed) (entry node.starts)
   pub from : entry node.starts node.unit ≤ t + 1
-  pub before : t + 1 < entry node.starts node.unit + (problem_of ws).duration node.unit
-  pub season : t < l.weeks
-  pub tested : TestedTo (problem_of ws) us (has node.placed) (entry node.starts) node.unit t xs node.bound.0
-  pub recalls : MemoTrue (problem_of ws) (price_in us) memo
+  pub before : t + 1 < entry node.starts node.unit + (problem file).duration node.unit
+  pub season : t < file.layout.weeks
+  pub tested : TestedTo (problem file) us (has node.placed) (entry node.starts) node.unit t xs node.bound.0
+  pub recalls : MemoTrue (problem file) (price_in us) memo
 
 -- a bound with the weeks that is to be weighed against a limit
-pub record Weighing (ws : List ℕ) (l : Layout) (us : List ℕ) (node : Node) (total : Euro) (limit : ℕ) (xs : List ℕ) : Type 0 where
-  pub filed : Filed ws l
-  pub dual : Dual (problem_of ws) us
-  pub unit : node.unit < l.units
-  pub permits : PermitsOf (problem_of ws) (placed_after node) (entry node.starts)
-  pub tested : Tested (problem_of ws) us (has node.placed) (entry node.starts) node.unit (limit + total_in us) xs (Ok total)
+pub record Weighing (file : File) (us : List ℕ) (node : Node) (total : Euro) (limit : ℕ) (xs : List ℕ) : Type 0 where
+  pub dual : Dual (problem file) us
+  pub unit : node.unit < file.layout.units
+  pub permits : PermitsOf (problem file) (placed_after node) (entry node.starts)
+  pub tested : Tested (problem file) us (has node.placed) (entry node.starts) node.unit (limit + total_in us) xs (Ok total)
   pub small : limit ≤ MOST_LIMIT
 
 -- before the start of the node's unit is tested: those placed stand at the node's bound
-pub record TestDue (ws : List ℕ) (l : Layout) (us rows : List ℕ) (node : Node) (limit : ℕ) (xs memo : List ℕ) : Type 0 where
-  pub filed : Filed ws l
-  pub dual : Dual (problem_of ws) us
-  pub due : Due (problem_of ws) rows (has node.placed) (entry node.starts) node.unit
-  pub stands : Stands (problem_of ws) us (has node.placed) (entry node.starts) xs node.bound.0
+pub record TestDue (file : File) (us rows : List ℕ) (node : Node) (limit : ℕ) (xs memo : List ℕ) : Type 0 where
+  pub dual : Dual (problem file) us
+  pub due : Due (problem file) rows (has node.placed) (entry node.starts) node.unit
+  pub stands : Stands (problem file) us (has node.placed) (entry node.starts) xs node.bound.0
   pub small : limit ≤ MOST_LIMIT
-  pub recalls : MemoTrue (problem_of ws) (price_in us) memo
+  pub recalls : MemoTrue (problem file) (price_in us) memo
 
 -- before any unit is placed
-pub record RootDue (ws : List ℕ) (l : Layout) (us : List ℕ) (limit : ℕ) : Type 0 where
-  pub filed : Filed ws l
-  pub dual : Dual (problem_of ws) us
+pub record RootDue (file : File) (us : List ℕ) (limit : ℕ) : Type 0 where
+  pub dual : Dual (problem file) us
   pub small : limit ≤ MOST_LIMIT
 
 -- ---- before any unit is placed

@@ -10,9 +10,7 @@ ghost use Rattle.sums.specs.NumSet.{has};
 ghost use Rattle.sums.specs.Table.{entry};
 ghost use Rattle.sets.specs.Sets.{SETS};
 ghost use Rattle.model.specs.Schedule.{out_in};
-ghost use Rattle.model.specs.Words.{problem_of};
 ghost use Rattle.model.specs.Commitment.{out_cost, least_cost, cheapest_run};
-ghost use Rattle.instance.specs.Filed.{Filed};
 ghost use Rattle.commitment.specs.Tally.{Tallies};
 ghost use Rattle.memo.specs.Memo.{Right, Others};
 ghost use Rattle.blame.specs.Placed.{paid, run_of};
@@ -22,11 +20,12 @@ ghost use Rattle.bound.specs.Rows.{COUNTS, MOST_WEEK, tally_of, RowsDue, RowsWit
 ghost use Rattle.bound.specs.Tests.{Judged, RootValues, Rooted};
 ghost use Rattle.bound.specs.Tests.{StartBounded, with_start, Weighing, TestDue, RootDue};
 ghost use Rattle.bound.specs.Tests.{MOST_LEAST, some_startless, Permits, RunsOf};
+ghost use Rattle.instance.specs.File.{problem};
 
 use commitment::BestRun;
 use dual::Node;
-use instance::Euro;
-use model::{Layout, NO_RUN};
+use instance::{Euro, File};
+use model::NO_RUN;
 use tables::TABLES;
 use tallies::ROW_SETS;
 
@@ -36,21 +35,15 @@ mod weeks;
 // ---- rows
 
 // The rows with unit j out in the weeks of its overhaul (D55).
-pub fn placed_rows(
-    words: &[u32],
-    l: Layout,
-    rows: &[u64; 52],
-    starts: [u8; 16],
-    j: usize,
-) -> [u64; 52]
-    requires { Filed words.now l × RowsDue (problem_of words.now) rows.now (entry starts) j }
-    ensures { RowsWith (problem_of words.now) rows.now (entry starts) j result }
+pub fn placed_rows(file: &File, rows: &[u64; 52], starts: [u8; 16], j: usize) -> [u64; 52]
+    requires { RowsDue (problem file.now) rows.now (entry starts) j }
+    ensures { RowsWith (problem file.now) rows.now (entry starts) j result }
 {
     let first = starts[j] as usize - 1;
-    let weeks = instance::duration(words, l, j);
+    let weeks = file.duration(j);
     let mut next = *rows;
     for k in 0..weeks {
-        next[first + k] = tallies::word_with(words, l, first + k, j, rows[first + k]);
+        next[first + k] = tallies::word_with(file, first + k, j, rows[first + k]);
     }
     next
 }
@@ -86,82 +79,64 @@ fn with_start(tables: &[u32; TABLES], node: Node) -> Node
     let start = node.starts[node.unit] as usize;
     dual::with_bound(
         node,
-        node.bound.plus(tables::excess(tables, node.unit, start)),
+        node.bound + tables::excess(tables, node.unit, start),
     )
 }
 
 // The bound with the weeks, weighed against the limit: one that comes to it blames those whose starts keep it there.
-fn weigh(
-    words: &[u32],
-    l: Layout,
-    tables: &[u32; TABLES],
-    node: Node,
-    total: Euro,
-    limit: Euro,
-    values: &mut [u32],
-) -> Result<Euro, u32>
-    requires { Weighing words.now l tables.now node total limit.0 values.old }
-    ensures { Judged (problem_of words.now) tables.now node limit.0 values.new result }
+fn weigh(file: &File, tables: &[u32; TABLES], node: Node, total: Euro, limit: Euro, values: &mut [u32]) -> Result<Euro, u32>
+    requires { Weighing file.now tables.now node total limit.0 values.old }
+    ensures { Judged (problem file.now) tables.now node limit.0 values.new result }
 {
     let wanted = dual::wanted(tables, limit);
     if total.0 < wanted.0 {
         return Ok(total);
     }
     let placed = dual::next_node(node, total);
-    Err(dual::find_blame(words, l, tables, placed, limit, values))
+    Err(dual::find_blame(file, tables, placed, limit, values))
 }
 
 // The node's unit at its start, with the units placed as the rows have them: the rules in the weeks of its overhaul, and the lower bound; or the units
 // whose starts are a dead end. The values of the weeks are those without the unit before, and those with it after where it holds (D56).
-pub fn test(
-    words: &[u32],
-    l: Layout,
-    tables: &[u32; TABLES],
-    rows: &[u64; 52],
-    node: Node,
-    limit: Euro,
-    values: &mut [u32],
-    memo: &mut [u32],
-) -> Result<Euro, u32>
-    requires { TestDue words.now l tables.now rows.now node limit.0 values.old memo.old }
-    ensures answer { Judged (problem_of words.now) tables.now node limit.0 values.new result }
-    ensures recalls { MemoTrue (problem_of words.now) (price_in tables.now) memo.new }
+pub fn test(file: &File, tables: &[u32; TABLES], rows: &[u64; 52], node: Node, limit: Euro, values: &mut [u32], memo: &mut [u32]) -> Result<Euro, u32>
+    requires { TestDue file.now tables.now rows.now node limit.0 values.old memo.old }
+    ensures answer { Judged (problem file.now) tables.now node limit.0 values.new result }
+    ensures recalls { MemoTrue (problem file.now) (price_in tables.now) memo.new }
 {
     let wanted = dual::wanted(tables, limit);
     let started = with_start(tables, node);
-    let total = weeks::test_weeks(words, l, tables, rows, started, wanted, values, memo)?;
-    weigh(words, l, tables, node, total, limit, values)
+    let total = weeks::test_weeks(file, tables, rows, started, wanted, values, memo)?;
+    weigh(file, tables, node, total, limit, values)
 }
 
 // ---- before any unit is placed
 
 // What all overhauls cost at least.
-fn least_sum(words: &[u32], l: Layout, tables: &[u32; TABLES]) -> Euro
-    requires { Filed words.now l }
-    ensures { (result.0 ≡ sum_to (problem_of words.now).units (least_in tables.now)) × (result.0 ≤ MOST_LEAST) }
+fn least_sum(file: &File, tables: &[u32; TABLES]) -> Euro
+    ensures { (result.0 ≡ sum_to (problem file.now).units (least_in tables.now)) × (result.0 ≤ MOST_LEAST) }
 {
-    let units = l.units;
+    let units = file.layout.units;
     let mut sum = Euro(0);
     for i in 0..units {
-        sum = sum.plus(tables::excess(tables, i, 0));
+        sum += tables::excess(tables, i, 0);
     }
     sum
 }
 
 // The lower bound with nobody out; or no schedule is below the limit at all (D61).
-pub fn root(words: &[u32], l: Layout, tables: &[u32; TABLES], limit: Euro) -> Result<Euro, u32>
-    requires { RootDue words.now l tables.now limit.0 }
-    ensures { Rooted (problem_of words.now) tables.now limit.0 result }
+pub fn root(file: &File, tables: &[u32; TABLES], limit: Euro) -> Result<Euro, u32>
+    requires { RootDue file.now tables.now limit.0 }
+    ensures { Rooted (problem file.now) tables.now limit.0 result }
 {
-    let weeks = l.weeks;
+    let weeks = file.layout.weeks;
     let wanted = dual::wanted(tables, limit);
-    let mut sum = least_sum(words, l, tables);
+    let mut sum = least_sum(file, tables);
     for t in 0..weeks {
         let value = tables::root_value(tables, t);
         if NO_RUN <= value.0 {
             return Err(0);
         }
-        sum = sum.plus(value);
+        sum += value;
     }
     if wanted.0 <= sum.0 {
         return Err(0);
@@ -181,13 +156,12 @@ pub fn first_values(tables: &[u32; TABLES]) -> [u32; 52]
 }
 
 // Whether some unit has no permitted start (D61).
-pub fn has_no_start(words: &[u32], l: Layout) -> bool
-    requires { Filed words.now l }
-    ensures { result ≡ some_startless (problem_of words.now) }
+pub fn has_no_start(file: &File) -> bool
+    ensures { result ≡ some_startless (problem file.now) }
 {
-    let units = l.units;
+    let units = file.layout.units;
     for i in 0..units {
-        let starts = overhaul::starts_of(words, l, i);
+        let starts = overhaul::starts_of(file, i);
         if starts.last < starts.first {
             return true;
         }
@@ -198,27 +172,27 @@ pub fn has_no_start(words: &[u32], l: Layout) -> bool
 // ---- all units placed
 
 // What week t costs with the units of a row word out: their maintenance, and the cheapest run of the others.
-fn tally_cost(words: &[u32], l: Layout, t: usize, word: u64, memo: &mut [u32]) -> Euro
-    requires { Filed words.now l × (t < l.weeks) × Tallies (problem_of words.now) t (tally_of word) × Right (problem_of words.now) memo.old }
-    ensures answer { (result.0 ≡ out_cost (problem_of words.now) t (has (word % SETS)) + least_cost (problem_of words.now) t (has (word % SETS)))
+fn tally_cost(file: &File, t: usize, word: u64, memo: &mut [u32]) -> Euro
+    requires { (t < file.now.layout.weeks) × Tallies (problem file.now) t (tally_of word) × Right (problem file.now) memo.old }
+    ensures answer { (result.0 ≡ out_cost (problem file.now) t (has (word % SETS)) + least_cost (problem file.now) t (has (word % SETS)))
         × (result.0 ≤ MOST_WEEK) }
-    ensures right { Right (problem_of words.now) memo.new × Others memo.old memo.new }
+    ensures right { Right (problem file.now) memo.new × Others memo.old memo.new }
 {
     let y = tallies::tally(word);
-    let run = memo::least_cost(words, l, t, y.out, memo);
-    y.cost.plus(run)
+    let run = memo::least_cost(file, t, y.out, memo);
+    y.cost + run
 }
 
 // What all weeks cost with the units of the rows out.
-pub fn cost(words: &[u32], l: Layout, rows: &[u64; 52], starts: [u8; 16], memo: &mut [u32]) -> Euro
-    requires { Filed words.now l × RowsOfAll (problem_of words.now) (entry starts) rows.now × Right (problem_of words.now) memo.old }
-    ensures answer { result.0 ≡ paid (problem_of words.now) (out_in (problem_of words.now) (entry starts)) }
-    ensures right { Right (problem_of words.now) memo.new × Others memo.old memo.new }
+pub fn cost(file: &File, rows: &[u64; 52], starts: [u8; 16], memo: &mut [u32]) -> Euro
+    requires { RowsOfAll (problem file.now) (entry starts) rows.now × Right (problem file.now) memo.old }
+    ensures answer { result.0 ≡ paid (problem file.now) (out_in (problem file.now) (entry starts)) }
+    ensures right { Right (problem file.now) memo.new × Others memo.old memo.new }
 {
-    let weeks = l.weeks;
+    let weeks = file.layout.weeks;
     let mut sum = Euro(0);
     for t in 0..weeks {
-        sum = sum.plus(tally_cost(words, l, t, rows[t], memo));
+        sum += tally_cost(file, t, rows[t], memo);
     }
     sum
 }
@@ -226,11 +200,11 @@ pub fn cost(words: &[u32], l: Layout, rows: &[u64; 52], starts: [u8; 16], memo: 
 // ---- the runs of a schedule
 
 // The cheapest run of week t with the units of a row word out, 0 where there is none.
-fn run_of(words: &[u32], l: Layout, t: usize, word: u64) -> u32
-    requires { Filed words.now l × (t < l.weeks) }
-    ensures { result ≡ run_of (cheapest_run (problem_of words.now) t (has (word % SETS))) }
+fn run_of(file: &File, t: usize, word: u64) -> u32
+    requires { (t < file.now.layout.weeks) }
+    ensures { result ≡ run_of (cheapest_run (problem file.now) t (has (word % SETS))) }
 {
-    let found = commitment::cheapest(words, l, t, (word % ROW_SETS) as u32);
+    let found = commitment::cheapest(file, t, (word % ROW_SETS) as u32);
     match found {
         BestRun::Nothing => 0,
         BestRun::Run(r, _) => r,
@@ -238,30 +212,30 @@ fn run_of(words: &[u32], l: Layout, t: usize, word: u64) -> u32
 }
 
 // The rows with all units placed at these starts.
-fn all_rows(words: &[u32], l: Layout, starts: [u8; 16]) -> [u64; 52]
-    requires { Filed words.now l × Permits (problem_of words.now) (entry starts) }
-    ensures { RowsOfAll (problem_of words.now) (entry starts) result }
+fn all_rows(file: &File, starts: [u8; 16]) -> [u64; 52]
+    requires { Permits (problem file.now) (entry starts) }
+    ensures { RowsOfAll (problem file.now) (entry starts) result }
 {
-    let units = l.units;
+    let units = file.layout.units;
     let mut rows = no_rows();
     for j in 0..units {
         // By way of a variable: the check covers no call whose result is laid in an array that it is lent.
-        let next = placed_rows(words, l, &rows, starts, j);
+        let next = placed_rows(file, &rows, starts, j);
         rows = next;
     }
     rows
 }
 
 // The cheapest run of each week, with the units out that these starts say.
-pub fn runs(words: &[u32], l: Layout, starts: [u8; 16]) -> [u32; 52]
-    requires { Filed words.now l × Permits (problem_of words.now) (entry starts) }
-    ensures { RunsOf (problem_of words.now) (entry starts) result }
+pub fn runs(file: &File, starts: [u8; 16]) -> [u32; 52]
+    requires { Permits (problem file.now) (entry starts) }
+    ensures { RunsOf (problem file.now) (entry starts) result }
 {
-    let weeks = l.weeks;
-    let rows = all_rows(words, l, starts);
+    let weeks = file.layout.weeks;
+    let rows = all_rows(file, starts);
     let mut table: [u32; 52] = [0; 52];
     for t in 0..weeks {
-        table[t] = run_of(words, l, t, rows[t]);
+        table[t] = run_of(file, t, rows[t]);
     }
     table
 }

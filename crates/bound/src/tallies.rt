@@ -1,13 +1,11 @@
 // Row words: the tally of the units out in a week as one word.
 ghost use Rattle.std.specs.Prelude.{◌≡◌, ◌<◌};
-ghost use Rattle.model.specs.Words.{problem_of};
-ghost use Rattle.instance.specs.Filed.{Filed};
 ghost use Rattle.commitment.specs.Tally.{Tallies};
 ghost use Rattle.bound.specs.Rows.{tally_of, word_of, Packs, RowJoins};
+ghost use Rattle.instance.specs.File.{problem};
 
 use commitment::Tally;
-use instance::Euro;
-use model::Layout;
+use instance::{Euro, File};
 use sets::SETS;
 
 // In a row word the number of the set of units out lies below this.
@@ -35,10 +33,10 @@ fn packed(y: Tally) -> u64
 }
 
 // The word of week t with unit i out as well.
-pub fn word_with(words: &[u32], l: Layout, t: usize, i: usize, word: u64) -> u64
-    requires { Filed words.now l × (t < l.weeks) × (i < l.units) × Tallies (problem_of words.now) t (tally_of word) }
-    ensures { Tallies (problem_of words.now) t (tally_of result) × RowJoins word i result }
+pub fn word_with(file: &File, t: usize, i: usize, word: u64) -> u64
+    requires { (t < file.now.layout.weeks) × (i < file.now.layout.units) × Tallies (problem file.now) t (tally_of word) }
+    ensures { Tallies (problem file.now) t (tally_of result) × RowJoins word i result }
 {
     let y = tally(word);
-    packed(y.with_unit(words, l, t, i))
+    packed(y.with_unit(file, t, i))
 }

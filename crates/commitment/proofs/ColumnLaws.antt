@@ -11,20 +11,19 @@ use lib.Pow.{pow_mono}
 use Rattle.sums.specs.NumSet.{power}
 use Rattle.sums.specs.Table.{entry}
 use Rattle.sums.proofs.LoopLaws.{place_next}
-use Rattle.model.specs.declared.Layout.{Layout}
-use Rattle.model.specs.Words.{problem_of}
-use Rattle.instance.specs.Filed.{Filed}
+use Rattle.instance.specs.declared.file.File.{File}
+use Rattle.instance.specs.File.{problem}
 use Rattle.commitment.specs.Score.{scored, weight_of, Column}
 
 -- nothing yet
 pub column_start : (f : ℕ → ℕ) (xs : List ℕ) → Column 0 f xs
 column_start f xs = record { holds = λ i l. absurd (omega arith) }
 
-module _ (ws : List ℕ) (l : Layout) (xs : List ℕ) (k v : ℕ) (f : Filed ws l) (long : length xs ≡ 16) (h : k < l.units) where
+module _ (file : File) (xs : List ℕ) (k v : ℕ) (long : length xs ≡ 16) (h : k < file.layout.units) where
   -- one more place
   pub column_next : (g : ℕ → ℕ) → Column k g xs → v ≡ g k → Column (k + 1) g (set xs k v)
   unfolding entry
-  column_next g c e = record { holds = place_next (λ (i x : ℕ). x ≡ g i) xs k v (omega (arith, f.units_most)) e c.holds }
+  column_next g c e = record { holds = place_next (λ (i x : ℕ). x ≡ g i) xs k v (omega (arith, file.filed.units_most)) e c.holds }
 
 -- all of them
 pub column_ended : (f : ℕ → ℕ) (xs : List ℕ) (k n : ℕ) → Column k f xs → k ≤ n → n ≤ k → Column n f xs
@@ -43,16 +42,16 @@ unfolding power
 number_next k a r e t = rw (add-one, pow-suc) (omega arith)
 
 -- none above that of the 16th
-pub number_most : (ws : List ℕ) (l : Layout) (k a : ℕ) → Filed ws l → k < l.units → a ≡ power k → a ≤ 32768
+pub number_most : (file : File) (k a : ℕ) → k < file.layout.units → a ≡ power k → a ≤ 32768
 unfolding power
-number_most ws l k a f h e =
-    let s : k ≤ 15 = omega (arith, f.units_most) in
+number_most file k a h e =
+    let s : k ≤ 15 = omega (arith, file.filed.units_most) in
     let m : 2 ^ k ≤ 2 ^ 15 = pow_mono s in
     omega arith
 
 -- one more weight, as the code makes it
-pub weight_next : (ws : List ℕ) (l : Layout) (xs : List ℕ) (t k c o a v : ℕ) → Filed ws l → length xs ≡ 16 → k < l.units
-    → Column k (weight_of (problem_of ws) t) xs → c ≡ (problem_of ws).running t k → o ≡ (problem_of ws).off t k → a ≡ power k → v ≡ scored (c - o) a
-    → Column (k + 1) (weight_of (problem_of ws) t) (set xs k v)
+pub weight_next : (file : File) (xs : List ℕ) (t k c o a v : ℕ) → length xs ≡ 16 → k < file.layout.units
+    → Column k (weight_of (problem file) t) xs → c ≡ (problem file).running t k → o ≡ (problem file).off t k → a ≡ power k → v ≡ scored (c - o) a
+    → Column (k + 1) (weight_of (problem file) t) (set xs k v)
 unfolding weight_of
-weight_next ws l xs t k c o a v f long h m e d n is = column_next ws l xs k v f long h (weight_of (problem_of ws) t) m (rw (← e, ← d, ← n) is)
+weight_next file xs t k c o a v long h m e d n is = column_next file xs k v long h (weight_of (problem file) t) m (rw (← e, ← d, ← n) is)

@@ -9,12 +9,12 @@ use Rattle.sums.specs.Sum.{sum_to}
 use Rattle.sums.specs.NumSet.{only_in, parts, has}
 use Rattle.sums.proofs.SumLaws.{sum_zero}
 use Rattle.sums.proofs.NumSetLaws.{zero_has}
-use Rattle.model.specs.declared.Layout.{Layout}
 use Rattle.model.specs.Problem.{Problem}
 use Rattle.model.specs.Rules.{output}
 use Rattle.model.specs.Words.{problem_of}
 use Rattle.model.specs.Commitment.{line_cost, full_cost}
-use Rattle.instance.specs.Filed.{Filed}
+use Rattle.instance.specs.declared.file.File.{File}
+use Rattle.instance.specs.File.{problem}
 use Rattle.instance.proofs.FigureLaws.{off_none}
 
 -- a unit of the run
@@ -28,17 +28,17 @@ unfolding line_cost parts
 line_off p t run i v b is e h = rw (← is, e) h
 
 -- all of them
-pub full_ended : (ws : List ℕ) (l : Layout) (t k a run : ℕ) → Filed ws l → k ≤ l.units → l.units ≤ k → a ≡ sum_to k (line_cost (problem_of ws) t run)
-    → a ≡ full_cost (problem_of ws) t run
+pub full_ended : (file : File) (t k a run : ℕ) → k ≤ file.layout.units → file.layout.units ≤ k → a ≡ sum_to k (line_cost (problem file) t run)
+    → a ≡ full_cost (problem file) t run
 unfolding full_cost
-full_ended ws l t k a run f h g e =
-    let z : k ≡ (problem_of ws).units = omega arith in
-    e ∙ ap (λ (n : ℕ). sum_to n (line_cost (problem_of ws) t run)) z
+full_ended file t k a run h g e =
+    let z : k ≡ (problem file).units = omega arith in
+    e ∙ ap (λ (n : ℕ). sum_to n (line_cost (problem file) t run)) z
 
 -- nothing, where nobody runs and the file has no OFF costs
-pub full_nobody : (ws : List ℕ) (l : Layout) (t : ℕ) → Filed ws l → l.pairs ≤ l.offs → 0 ≡ full_cost (problem_of ws) t 0
+pub full_nobody : (file : File) (t : ℕ) → file.layout.pairs ≤ file.layout.offs → 0 ≡ full_cost (problem file) t 0
 unfolding full_cost line_cost parts
-full_nobody ws l t f none = sym (sum_zero (problem_of ws).units (line_cost (problem_of ws) t 0) (λ i h. rw (zero_has i) (sym (off_none ws l f t i none))))
+full_nobody file t none = sym (sum_zero (problem file).units (line_cost (problem file) t 0) (λ i h. rw (zero_has i) (sym (off_none file.words.now file.layout file.filed t i none))))
 
 -- ---- what a run gives
 

@@ -14,15 +14,14 @@ use Rattle.sums.specs.NumSet.{NumSet, parts, complement, power, number_of, has}
 use Rattle.sums.specs.Table.{entry}
 use Rattle.sums.proofs.SumLaws.{sum_at_most, sum_same}
 use Rattle.sums.proofs.NumSetLaws.{number_own}
-use Rattle.model.specs.declared.Layout.{Layout}
 use Rattle.model.specs.Problem.{Problem}
 use Rattle.model.specs.Rules.{output}
-use Rattle.model.specs.Words.{problem_of}
 use Rattle.model.specs.Commitment.{line_cost, run_cost, full_cost, off_cost, run_before, Serves, Cheapest, NoRun, NO_RUN, full_least}
 use Rattle.model.proofs.CommitmentLaws.{run_full, full_of, full_none, full_bounded}
 use Rattle.model.proofs.FileLaws.{ranged}
 use Rattle.sets.specs.Sets.{SETS}
-use Rattle.instance.specs.Filed.{Filed}
+use Rattle.instance.specs.declared.file.File.{File}
+use Rattle.instance.specs.File.{problem}
 use Rattle.cover.specs.Cover.{UNCOVERED, LeastCover}
 use Rattle.cover.proofs.CoverLaws.{least_agree, least_free}
 use Rattle.commitment.specs.Score.{SCALE, scored, cost_in, number_in, score_of, weight_of, thrifty, ThriftyRun, decided, LeastWeight, Scored, LeastScore, Column}
@@ -104,111 +103,111 @@ module _ (p : Problem) (t : ℕ) (few : p.units ≤ 16) where
 -- ---- the same of a file's week, as the code has it
 
 -- what a run of an accepted file costs at most, all other units OFF
-pub run_small : (ws : List ℕ) (l : Layout) (t : ℕ) → Filed ws l → t < l.weeks → (q : ℕ) → full_cost (problem_of ws) t q ≤ 4000000
+pub run_small : (file : File) (t : ℕ) → t < file.layout.weeks → (q : ℕ) → full_cost (problem file) t q ≤ 4000000
 unfolding full_cost line_cost parts
-run_small ws l t f h q =
+run_small file t h q =
     let b = sum_at_most p.units 250000 (parts (has q) (p.running t) (p.off t)) (λ i d. go i d (has q i)) in
-    omega (arith, mul-le-mul_right 250000 (ranged ws f.passed).units_most)
+    omega (arith, mul-le-mul_right 250000 (ranged file.words.now file.filed.passed).units_most)
   where
     p : Problem
-    p = problem_of ws
+    p = problem file
 
-    week : t < (problem_of ws).weeks
+    week : t < (problem file).weeks
     week = omega arith
 
-    go : (i : ℕ) → i < (problem_of ws).units → (b : Bool) → if b ((problem_of ws).running t i) ((problem_of ws).off t i) ≤ 250000
-    go i d true = (ranged ws f.passed).running_most t i week d
-    go i d false = (ranged ws f.passed).off_most t i week d
+    go : (i : ℕ) → i < (problem file).units → (b : Bool) → if b ((problem file).running t i) ((problem file).off t i) ≤ 250000
+    go i d true = (ranged file.words.now file.filed.passed).running_most t i week d
+    go i d false = (ranged file.words.now file.filed.passed).off_most t i week d
 
 -- so it does by itself, where it serves
-pub served_small : (ws : List ℕ) (l : Layout) (t : ℕ) (out : NumSet) → Filed ws l → t < l.weeks → (q : ℕ) → Serves (problem_of ws) t out q
-    → run_cost (problem_of ws) t out q ≤ 4000000
-served_small ws l t out f h q s = omega (arith, run_small ws l t f h q, run_full (problem_of ws) t out q s.run)
+pub served_small : (file : File) (t : ℕ) (out : NumSet) → t < file.layout.weeks → (q : ℕ) → Serves (problem file) t out q
+    → run_cost (problem file) t out q ≤ 4000000
+served_small file t out h q s = omega (arith, run_small file t h q, run_full (problem file) t out q s.run)
 
-module _ (ws : List ℕ) (l : Layout) (t out : ℕ) (f : Filed ws l) where
-  few : (problem_of ws).units ≤ 16
-  few = (ranged ws f.passed).units_most
+module _ (file : File) (t out : ℕ) where
+  few : (problem file).units ≤ 16
+  few = (ranged file.words.now file.filed.passed).units_most
 
   -- the cover of least weight
-  pub weight_least : (thrifty both need v : ℕ) (caps weights : List ℕ) → ThriftyRun (problem_of ws) t (has out) thrifty
-      → Column l.units ((problem_of ws).capacity t) caps → Column l.units (weight_of (problem_of ws) t) weights
-      → need ≡ (problem_of ws).demand t - output (problem_of ws) t (has thrifty) → ((k : ℕ) → has both k ≡ (has out k || has thrifty k))
-      → LeastCover (complement (has both)) (entry caps) (entry weights) l.units need v → LeastWeight (problem_of ws) t (has out) v
+  pub weight_least : (thrifty both need v : ℕ) (caps weights : List ℕ) → ThriftyRun (problem file) t (has out) thrifty
+      → Column file.layout.units ((problem file).capacity t) caps → Column file.layout.units (weight_of (problem file) t) weights
+      → need ≡ (problem file).demand t - output (problem file) t (has thrifty) → ((k : ℕ) → has both k ≡ (has out k || has thrifty k))
+      → LeastCover (complement (has both)) (entry caps) (entry weights) file.layout.units need v → LeastWeight (problem file) t (has out) v
   weight_least r both need v caps weights run a b e join c =
-      let p = problem_of ws in
+      let p = problem file in
       let left = p.demand t - output p t (thrifty p t (has out)) in
       let n : need ≡ left = e ∙ ap (λ (z : ℕ). p.demand t - z) (thrifty_output p t r (has out) run) in
-      subst (λ (u : ℕ). LeastCover (complement (decided p t (has out))) (p.capacity t) (weight_of p t) u left v) (sym f.units_are)
-      (subst (λ (z : ℕ). LeastCover (complement (decided p t (has out))) (p.capacity t) (weight_of p t) l.units z v) n
-      (least_free (complement (has both)) (complement (decided p t (has out))) (p.capacity t) (weight_of p t) l.units need v
+      subst (λ (u : ℕ). LeastCover (complement (decided p t (has out))) (p.capacity t) (weight_of p t) u left v) (sym file.filed.units_are)
+      (subst (λ (z : ℕ). LeastCover (complement (decided p t (has out))) (p.capacity t) (weight_of p t) file.layout.units z v) n
+      (least_free (complement (has both)) (complement (decided p t (has out))) (p.capacity t) (weight_of p t) file.layout.units need v
       (λ i d. thrifty_decided p t r (has out) run both out refl join i (omega arith))
-      (least_agree (complement (has both)) (entry caps) (p.capacity t) (entry weights) (weight_of p t) l.units need v a.holds b.holds c)))
+      (least_agree (complement (has both)) (entry caps) (p.capacity t) (entry weights) (weight_of p t) file.layout.units need v a.holds b.holds c)))
 
   -- the number of the thrifty units fits
-  pub thrifty_fits : (r : ℕ) → ThriftyRun (problem_of ws) t (has out) r → r < SETS
-  thrifty_fits r run = thrifty_small (problem_of ws) t r (has out) run few
+  pub thrifty_fits : (r : ℕ) → ThriftyRun (problem file) t (has out) r → r < SETS
+  thrifty_fits r run = thrifty_small (problem file) t r (has out) run few
 
   -- with their score the least weight is the least score
-  pub score_least : (thrifty least cost s r : ℕ) → ThriftyRun (problem_of ws) t (has out) thrifty → t < l.weeks
-      → LeastWeight (problem_of ws) t (has out) least → least < UNCOVERED → cost ≡ full_cost (problem_of ws) t thrifty → s ≡ scored cost thrifty
-      → r ≡ s + least → LeastScore (problem_of ws) t (has out) r
+  pub score_least : (thrifty least cost s r : ℕ) → ThriftyRun (problem file) t (has out) thrifty → t < file.layout.weeks
+      → LeastWeight (problem file) t (has out) least → least < UNCOVERED → cost ≡ full_cost (problem file) t thrifty → s ≡ scored cost thrifty
+      → r ≡ s + least → LeastScore (problem file) t (has out) r
   unfolding score_of
   score_least n least cost s r run h w low ec es er =
-      let p = problem_of ws in
+      let p = problem file in
       let sum : base p SCALE power t (has out) (tie_small p t few) + least ≡ r = omega (arith, base_score p t few (has out) n run) in
       let reached = subst (Scored p t (has out)) sum (weight_reached p t few (has out) least w low) in
       record {
-        most = omega (arith, reached.score, run_small ws l t f h reached.run, number_small p t few reached.run reached.serves.run.units);
+        most = omega (arith, reached.score, run_small file t h reached.run, number_small p t few reached.run reached.serves.run.units);
         reached = λ _. reached;
         least = λ q a. omega (arith, weight_below p t few (has out) least w q a, sum);
       }
 
   -- without OFF costs it is the least score by itself
-  pub score_plain : (least : ℕ) → t < l.weeks → LeastWeight (problem_of ws) t (has out) least → least < UNCOVERED → l.pairs ≤ l.offs
-      → LeastScore (problem_of ws) t (has out) least
+  pub score_plain : (least : ℕ) → t < file.layout.weeks → LeastWeight (problem file) t (has out) least → least < UNCOVERED → file.layout.pairs ≤ file.layout.offs
+      → LeastScore (problem file) t (has out) least
   score_plain least h w low none =
-      score_least 0 least 0 0 least (thrifty_none ws l t (has out) f none) h w low (full_nobody ws l t f none) refl (omega arith)
+      score_least 0 least 0 0 least (thrifty_none file t (has out) none) h w low (full_nobody file t none) refl (omega arith)
 
   -- or stands for none
-  pub score_none : (least : ℕ) → LeastWeight (problem_of ws) t (has out) least → UNCOVERED ≤ least → LeastScore (problem_of ws) t (has out) UNCOVERED
+  pub score_none : (least : ℕ) → LeastWeight (problem file) t (has out) least → UNCOVERED ≤ least → LeastScore (problem file) t (has out) UNCOVERED
   score_none least w high = record {
     most = omega arith;
     reached = λ h. absurd (omega arith);
-    least = λ q a. omega (arith, weight_below (problem_of ws) t few (has out) least w q a);
+    least = λ q a. omega (arith, weight_below (problem file) t few (has out) least w q a);
   }
 
-  module _ (v : ℕ) (h : t < l.weeks) (m : LeastScore (problem_of ws) t (has out) v) where
+  module _ (v : ℕ) (h : t < file.layout.weeks) (m : LeastScore (problem file) t (has out) v) where
     -- the cheapest run
-    pub found_run : (r : ℕ) → v < UNCOVERED → r ≡ number_in v → Cheapest (problem_of ws) t (has out) r
-    found_run r b e = subst (Cheapest (problem_of ws) t (has out)) (sym e) (least_tells (problem_of ws) t few (has out) v m b).0
+    pub found_run : (r : ℕ) → v < UNCOVERED → r ≡ number_in v → Cheapest (problem file) t (has out) r
+    found_run r b e = subst (Cheapest (problem file) t (has out)) (sym e) (least_tells (problem file) t few (has out) v m b).0
 
     -- its cost, without what the units out would cost OFF
-    pub found_run_cost : (r cost off c : ℕ) → v < UNCOVERED → r ≡ number_in v → cost ≡ cost_in v → off ≡ off_cost (problem_of ws) t (has out)
-        → c ≡ cost - off → c ≡ run_cost (problem_of ws) t (has out) r
+    pub found_run_cost : (r cost off c : ℕ) → v < UNCOVERED → r ≡ number_in v → cost ≡ cost_in v → off ≡ off_cost (problem file) t (has out)
+        → c ≡ cost - off → c ≡ run_cost (problem file) t (has out) r
     found_run_cost r cost off c b er ec eo e =
-        let told = (least_tells (problem_of ws) t few (has out) v m b).1.1 in
-        omega (arith, told, ap (run_cost (problem_of ws) t (has out)) er)
+        let told = (least_tells (problem file) t few (has out) v m b).1.1 in
+        omega (arith, told, ap (run_cost (problem file) t (has out)) er)
 
     -- or that there is none
-    pub found_none : UNCOVERED ≤ v → NoRun (problem_of ws) t (has out)
-    found_none b = least_none_left (problem_of ws) t few (has out) v (λ q s. omega (arith, run_small ws l t f h q)) m b
+    pub found_none : UNCOVERED ≤ v → NoRun (problem file) t (has out)
+    found_none b = least_none_left (problem file) t few (has out) v (λ q s. omega (arith, run_small file t h q)) m b
 
     -- either way the score tells the least cost
-    pub found_cost : (c : ℕ) → c ≡ cost_in v → c ≡ full_least (problem_of ws) t (has out)
+    pub found_cost : (c : ℕ) → c ≡ cost_in v → c ≡ full_least (problem file) t (has out)
     found_cost c e = e ∙ by (dec_lt v UNCOVERED)
       where
-        by : Dec (v < UNCOVERED) → cost_in v ≡ full_least (problem_of ws) t (has out)
+        by : Dec (v < UNCOVERED) → cost_in v ≡ full_least (problem file) t (has out)
         by (yes b) =
-            (least_tells (problem_of ws) t few (has out) v m b).1.0
-            ∙ sym (full_of (problem_of ws) t (has out) (number_in v) (found_run (number_in v) b refl))
+            (least_tells (problem file) t few (has out) v m b).1.0
+            ∙ sym (full_of (problem file) t (has out) (number_in v) (found_run (number_in v) b refl))
         by (no b) =
             let u : UNCOVERED ≤ v = omega arith in
-            omega (arith, m.most, full_none (problem_of ws) t (has out) (found_none u))
+            omega (arith, m.most, full_none (problem file) t (has out) (found_none u))
 
     -- which fits a word of 32 bits
     pub cost_small : (c : ℕ) → c ≡ cost_in v → c ≤ NO_RUN
     cost_small c e = omega (arith, m.most)
 
 -- a week's least cost is never more than what stands for none
-pub least_small : (ws : List ℕ) (l : Layout) (t : ℕ) → Filed ws l → t < l.weeks → (out : NumSet) → full_least (problem_of ws) t out ≤ NO_RUN
-least_small ws l t f h out = full_bounded (problem_of ws) t out (λ q s. omega (arith, run_small ws l t f h q))
+pub least_small : (file : File) (t : ℕ) → t < file.layout.weeks → (out : NumSet) → full_least (problem file) t out ≤ NO_RUN
+least_small file t h out = full_bounded (problem file) t out (λ q s. omega (arith, run_small file t h q))

@@ -3,7 +3,6 @@
 use Prim.Native.Nat.{ℕ, ◌+◌, ◌-◌, ◌^◌, ◌≤◌, ◌<◌}
 use mathlib.Core.Path.{◌≡◌, refl, sym, ◌∙◌, ap}
 use mathlib.Core.Bool.{Bool, true, false, not, ◌&&◌, ◌||◌}
-use mathlib.Core.List.{List}
 use native.Mathlib.Decide.{ℕ_discrete}
 use native.Mathlib.Omega.{arith}
 use lib.Dec.{ltb, eqb}
@@ -17,12 +16,11 @@ use Rattle.sums.proofs.LoopLaws.{Gathered, gathered_ended}
 use Rattle.sums.proofs.RangeLaws.{some_of, first_is}
 use Rattle.sums.proofs.SumLaws.{sum_zero, sum_cut}
 use Rattle.sums.proofs.NumSetLaws.{pick_agree, zero_has, number_own, number_below}
-use Rattle.model.specs.declared.Layout.{Layout}
 use Rattle.model.specs.Problem.{Problem}
 use Rattle.model.specs.Rules.{output}
-use Rattle.model.specs.Words.{problem_of}
 use Rattle.sets.specs.Sets.{SETS}
-use Rattle.instance.specs.Filed.{Filed}
+use Rattle.instance.specs.declared.file.File.{File}
+use Rattle.instance.specs.File.{problem}
 use Rattle.instance.proofs.FigureLaws.{off_none}
 use Rattle.commitment.specs.Score.{thrifty, thrifty_at, ThriftyRun, decided}
 
@@ -104,28 +102,28 @@ module _ (p : Problem) (t r : ℕ) (out : NumSet) (all : (j : ℕ) → has r j �
       omega (arith, whole, cut, zero, same, number_below p.units (has r))
 
 -- the loop's end
-pub thrifty_ended : (ws : List ℕ) (l : Layout) (t i units r : ℕ) (out : NumSet) → Filed ws l → Gathered (thrifty_at (problem_of ws) t out) i r
-    → units ≡ l.units → i ≤ units → units ≤ i → r < 4294967296 → ThriftyRun (problem_of ws) t out r
-thrifty_ended ws l t i units r out f g e a b small = record { units = all_run p t r out all small few; has_them = all_in p t r out all }
+pub thrifty_ended : (file : File) (t i units r : ℕ) (out : NumSet) → Gathered (thrifty_at (problem file) t out) i r
+    → units ≡ file.layout.units → i ≤ units → units ≤ i → r < 4294967296 → ThriftyRun (problem file) t out r
+thrifty_ended file t i units r out g e a b small = record { units = all_run p t r out all small few; has_them = all_in p t r out all }
   where
     p : Problem
-    p = problem_of ws
+    p = problem file
 
-    few : (problem_of ws).units ≤ 16
+    few : (problem file).units ≤ 16
     few = omega arith
 
-    count : units ≡ (problem_of ws).units
+    count : units ≡ (problem file).units
     count = omega arith
 
-    all : (j : ℕ) → has r j ≡ some_to (problem_of ws).units (thrifty_at (problem_of ws) t out j)
+    all : (j : ℕ) → has r j ≡ some_to (problem file).units (thrifty_at (problem file) t out j)
     all j = gathered_ended (thrifty_at p t out) i units r g a b j ∙ ap (λ (n : ℕ). some_to n (thrifty_at p t out j)) count
 
 -- none, where the file has no OFF costs
-pub thrifty_none : (ws : List ℕ) (l : Layout) (t : ℕ) (out : NumSet) → Filed ws l → l.pairs ≤ l.offs → ThriftyRun (problem_of ws) t out 0
+pub thrifty_none : (file : File) (t : ℕ) (out : NumSet) → file.layout.pairs ≤ file.layout.offs → ThriftyRun (problem file) t out 0
 unfolding thrifty
-thrifty_none ws l t out f none = record {
-  units = omega (arith, pow_pos (problem_of ws).units);
-  has_them = λ i h. zero_has i ∙ sym (rw (← off_none ws l f t i none, le-ltb ((problem_of ws).running t i) 0 (omega arith)) (and_last_false (not (out i))));
+thrifty_none file t out none = record {
+  units = omega (arith, pow_pos (problem file).units);
+  has_them = λ i h. zero_has i ∙ sym (rw (← off_none file.words.now file.layout file.filed t i none, le-ltb ((problem file).running t i) 0 (omega arith)) (and_last_false (not (out i))));
 }
 
 -- ---- what the run of them means

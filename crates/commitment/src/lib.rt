@@ -5,19 +5,17 @@
 
 ghost use Rattle.std.specs.Prelude.{◌≡◌, ◌||◌, ℕ, ◌+◌, ◌-◌, ◌*◌, ◌<◌, ◌≤◌};
 ghost use Rattle.sums.specs.NumSet.{has, with};
-ghost use Rattle.model.specs.Words.{problem_of};
 ghost use Rattle.model.specs.Rules.{output};
 ghost use Rattle.model.specs.Commitment.{line_cost, full_cost, full_least, NO_RUN};
-ghost use Rattle.instance.specs.Filed.{Filed};
 ghost use Rattle.cover.specs.Cover.{UNCOVERED};
 ghost use Rattle.cover.specs.Tables.{MOST_WEIGHT, Caps, Weights};
 ghost use Rattle.commitment.specs.Tally.{no_tally, Tallies};
 ghost use Rattle.commitment.specs.Score.{SCALE, scored, cost_in, number_in, weight_of, thrifty_at, ThriftyRun, LeastWeight, LeastScore, Column};
 ghost use Rattle.commitment.specs.Answers.{Answers};
+ghost use Rattle.instance.specs.File.{problem};
 
 use cover::UNCOVERED;
-use instance::{Euro, Kilo};
-use model::Layout;
+use instance::{Euro, File, Kilo};
 
 // The units out in a week, their number, and their maintenance cost.
 #[derive(Clone, Copy)]
@@ -40,40 +38,38 @@ impl Tally {
     }
 
     // Week t's tally with unit i out as well.
-    pub fn with_unit(self, words: &[u32], l: Layout, t: usize, i: usize) -> Tally
-        requires filed { Filed words.now l }
-        requires t_lt_weeks { (t < l.weeks) × (i < l.units) }
-        requires tallies { Tallies (problem_of words.now) t self }
-        ensures { Tallies (problem_of words.now) t result × ((k : ℕ) → has result.out k ≡ with (has self.out) i k) }
+    pub fn with_unit(self, file: &File, t: usize, i: usize) -> Tally
+        requires t_lt_weeks { (t < file.now.layout.weeks) × (i < file.now.layout.units) }
+        requires tallies { Tallies (problem file.now) t self }
+        ensures { Tallies (problem file.now) t result × ((k : ℕ) → has result.out k ≡ with (has self.out) i k) }
     {
         if sets::has(self.out, i) {
             return self;
         }
-        let more = instance::maint_cost(words, l, t, i);
+        let more = file.maint_cost(t, i);
         Tally {
             out: sets::with(self.out, i),
             count: self.count + 1,
-            cost: self.cost.plus(more),
+            cost: self.cost + more,
         }
     }
 }
 
-// A week's cheapest run, by its number, with its cost; or nothing, where the units that are not out fall short even together.
+// A week's cheapest run: its number, and its cost.
 #[derive(Clone, Copy)]
-pub enum BestRun {
-    Nothing,
-    Run(u32, Euro),
+pub struct BestRun {
+    pub number: u32,
+    pub cost: Euro,
 }
 
 // What each unit gives in week t, 0 past the last.
-fn capacities(words: &[u32], l: Layout, t: usize) -> [u64; 16]
-    requires { Filed words.now l }
-    ensures { Column l.units ((problem_of words.now).capacity t) result × Caps result }
+fn capacities(file: &File, t: usize) -> [u64; 16]
+    ensures { Column file.now.layout.units ((problem file.now).capacity t) result × Caps result }
 {
-    let units = l.units;
+    let units = file.layout.units;
     let mut caps: [u64; 16] = [0; 16];
     for i in 0..units {
-        let kilo = instance::capacity(words, l, t, i);
+        let kilo = file.capacity(t, i);
         caps[i] = kilo.0;
     }
     caps
@@ -119,21 +115,20 @@ fn weight(on: Euro, off: Euro, number: u64) -> u64
     requires { (on.0 ≤ 250000) × (number ≤ 32768) }
     ensures { (result ≡ scored (on.0 - off.0) number) × (result ≤ MOST_WEIGHT) }
 {
-    score(on.less(off), number)
+    score(on.saturating_sub(off), number)
 }
 
 // What each unit adds to the score of a run of week t, 0 past the last.
-fn weights(words: &[u32], l: Layout, t: usize) -> [u64; 16]
-    requires filed { Filed words.now l }
-    requires t_lt_weeks { t < l.weeks }
-    ensures { Column l.units (weight_of (problem_of words.now) t) result × Weights result }
+fn weights(file: &File, t: usize) -> [u64; 16]
+    requires t_lt_weeks { t < file.now.layout.weeks }
+    ensures { Column file.now.layout.units (weight_of (problem file.now) t) result × Weights result }
 {
-    let units = l.units;
+    let units = file.layout.units;
     let mut table: [u64; 16] = [0; 16];
     let mut number: u64 = 1;
     for i in 0..units {
-        let on = instance::running_cost(words, l, t, i);
-        let off = instance::off_cost(words, l, t, i);
+        let on = file.running_cost(t, i);
+        let off = file.off_cost(t, i);
         table[i] = weight(on, off, number);
         number = next_number(number);
     }
@@ -143,16 +138,15 @@ fn weights(words: &[u32], l: Layout, t: usize) -> [u64; 16]
 // ---- units that run whether they are needed or not
 
 // The thrifty units found so far, and unit i where it is one: not out, and cheaper running than OFF.
-fn thrifty_with(words: &[u32], l: Layout, t: usize, out: u32, i: usize, found: u32) -> u32
-    requires filed { Filed words.now l }
-    requires t_lt_weeks { (t < l.weeks) × (i < l.units) }
-    ensures { (j : ℕ) → has result j ≡ (has found j || thrifty_at (problem_of words.now) t (has out) j i) }
+fn thrifty_with(file: &File, t: usize, out: u32, i: usize, found: u32) -> u32
+    requires t_lt_weeks { (t < file.now.layout.weeks) × (i < file.now.layout.units) }
+    ensures { (j : ℕ) → has result j ≡ (has found j || thrifty_at (problem file.now) t (has out) j i) }
 {
     if sets::has(out, i) {
         return found;
     }
-    let on = instance::running_cost(words, l, t, i);
-    let off = instance::off_cost(words, l, t, i);
+    let on = file.running_cost(t, i);
+    let off = file.off_cost(t, i);
     if on.0 < off.0 {
         return sets::with(found, i);
     }
@@ -160,118 +154,112 @@ fn thrifty_with(words: &[u32], l: Layout, t: usize, out: u32, i: usize, found: u
 }
 
 // The units that cost less running than OFF, of those not out (D88).
-fn thrifty_run(words: &[u32], l: Layout, t: usize, out: u32) -> u32
-    requires filed { Filed words.now l }
-    requires t_lt_weeks { t < l.weeks }
-    ensures { ThriftyRun (problem_of words.now) t (has out) result }
+fn thrifty_run(file: &File, t: usize, out: u32) -> u32
+    requires t_lt_weeks { t < file.now.layout.weeks }
+    ensures { ThriftyRun (problem file.now) t (has out) result }
 {
     // Without OFF costs nothing is cheaper than OFF.
-    if l.pairs <= l.offs {
+    if file.layout.pairs <= file.layout.offs {
         return 0;
     }
-    let units = l.units;
+    let units = file.layout.units;
     let mut found = 0;
     for i in 0..units {
-        found = thrifty_with(words, l, t, out, i, found);
+        found = thrifty_with(file, t, out, i, found);
     }
     found
 }
 
 // What unit i costs in week t where it is not out.
-fn line_cost(words: &[u32], l: Layout, t: usize, run: u32, i: usize) -> Euro
-    requires filed { Filed words.now l }
-    requires t_lt_weeks { (t < l.weeks) × (i < l.units) }
-    ensures { (result.0 ≡ line_cost (problem_of words.now) t run i) × (result.0 ≤ 250000) }
+fn line_cost(file: &File, t: usize, run: u32, i: usize) -> Euro
+    requires t_lt_weeks { (t < file.now.layout.weeks) × (i < file.now.layout.units) }
+    ensures { (result.0 ≡ line_cost (problem file.now) t run i) × (result.0 ≤ 250000) }
 {
     if sets::has(run, i) {
-        return instance::running_cost(words, l, t, i);
+        return file.running_cost(t, i);
     }
-    instance::off_cost(words, l, t, i)
+    file.off_cost(t, i)
 }
 
 // What a run costs in week t with all other units OFF.
-fn full_cost(words: &[u32], l: Layout, t: usize, run: u32) -> Euro
-    requires filed { Filed words.now l }
-    requires t_lt_weeks { t < l.weeks }
-    ensures { (result.0 ≡ full_cost (problem_of words.now) t run) × (result.0 ≤ 4000000) }
+fn full_cost(file: &File, t: usize, run: u32) -> Euro
+    requires t_lt_weeks { t < file.now.layout.weeks }
+    ensures { (result.0 ≡ full_cost (problem file.now) t run) × (result.0 ≤ 4000000) }
 {
-    let units = l.units;
+    let units = file.layout.units;
     let mut sum = Euro(0);
     for i in 0..units {
-        let more = line_cost(words, l, t, run, i);
-        sum = sum.plus(more);
+        sum += line_cost(file, t, run, i);
     }
     sum
 }
 
 // What is still needed in week t when a run is on.
-fn still_needed(words: &[u32], l: Layout, t: usize, run: u32) -> Kilo
-    requires filed { Filed words.now l }
-    requires t_lt_weeks { t < l.weeks }
-    ensures { result.0 ≡ (problem_of words.now).demand t - output (problem_of words.now) t (has run) }
+fn still_needed(file: &File, t: usize, run: u32) -> Kilo
+    requires t_lt_weeks { t < file.now.layout.weeks }
+    ensures { result.0 ≡ (problem file.now).demand t - output (problem file.now) t (has run) }
 {
-    let need = instance::demand(words, l, t);
+    let need = file.demand(t);
     if run == 0 {
         return need;
     }
-    let given = instance::run_output(words, l, t, run);
-    need.less(given)
+    let given = file.run_output(t, run);
+    need.saturating_sub(given)
 }
 
 // ---- the cheapest run
 
 // The least weight of units that need not run and give what is still needed beside those that run anyway.
-fn least_weight(words: &[u32], l: Layout, t: usize, out: u32, thrifty: u32) -> u64
-    requires filed { Filed words.now l }
-    requires t_lt_weeks { t < l.weeks }
-    requires thrifty_run { ThriftyRun (problem_of words.now) t (has out) thrifty }
-    ensures { LeastWeight (problem_of words.now) t (has out) result }
+fn least_weight(file: &File, t: usize, out: u32, thrifty: u32) -> u64
+    requires t_lt_weeks { t < file.now.layout.weeks }
+    requires thrifty_run { ThriftyRun (problem file.now) t (has out) thrifty }
+    ensures { LeastWeight (problem file.now) t (has out) result }
 {
-    let caps = capacities(words, l, t);
-    let table = weights(words, l, t);
-    let need = still_needed(words, l, t, thrifty);
+    let caps = capacities(file, t);
+    let table = weights(file, t);
+    let need = still_needed(file, t, thrifty);
     let decided = sets::union(out, thrifty);
-    cover::least(&caps, &table, l.units, decided, need)
+    cover::least(&caps, &table, file.layout.units, decided, need)
 }
 
 // The least score of a run of week t with these units out (D89).
-fn least_score(words: &[u32], l: Layout, t: usize, out: u32) -> u64
-    requires filed { Filed words.now l }
-    requires t_lt_weeks { t < l.weeks }
-    ensures { LeastScore (problem_of words.now) t (has out) result }
+fn least_score(file: &File, t: usize, out: u32) -> u64
+    requires t_lt_weeks { t < file.now.layout.weeks }
+    ensures { LeastScore (problem file.now) t (has out) result }
 {
-    let thrifty = thrifty_run(words, l, t, out);
-    let least = least_weight(words, l, t, out, thrifty);
+    let thrifty = thrifty_run(file, t, out);
+    let least = least_weight(file, t, out, thrifty);
     if UNCOVERED <= least {
         return UNCOVERED;
     }
     // Without OFF costs no unit runs unasked, and those that do not run cost nothing.
-    if l.pairs <= l.offs {
+    if file.layout.pairs <= file.layout.offs {
         return least;
     }
-    score(full_cost(words, l, t, thrifty), thrifty as u64) + least
+    score(full_cost(file, t, thrifty), thrifty as u64) + least
 }
 
-// The cheapest run of week t with these units out; of equals the one with the smallest number (D47).
-pub fn cheapest(words: &[u32], l: Layout, t: usize, out: u32) -> BestRun
-    requires filed { Filed words.now l }
-    requires t_lt_weeks { t < l.weeks }
-    ensures { Answers (problem_of words.now) t (has out) result }
+// The cheapest run of week t with these units out; of equals the one with the smallest number (D47). None where the others fall short even together.
+pub fn cheapest(file: &File, t: usize, out: u32) -> Option<BestRun>
+    requires t_lt_weeks { t < file.now.layout.weeks }
+    ensures { Answers (problem file.now) t (has out) result }
 {
-    let score = least_score(words, l, t, out);
+    let score = least_score(file, t, out);
     if score < UNCOVERED {
-        let off = instance::off_sum(words, l, t, out);
-        return BestRun::Run(number_in(score), cost_in(score).less(off));
+        let off = file.off_sum(t, out);
+        return Some(BestRun {
+            number: number_in(score),
+            cost: cost_in(score).saturating_sub(off),
+        });
     }
-    BestRun::Nothing
+    None
 }
 
 // What the cheapest run costs with OFF charged to the units out too, NO_RUN where there is none: UNCOVERED stands for the score then, and the
 // same division tells both.
-pub fn full_least(words: &[u32], l: Layout, t: usize, out: u32) -> Euro
-    requires filed { Filed words.now l }
-    requires t_lt_weeks { t < l.weeks }
-    ensures { (result.0 ≡ full_least (problem_of words.now) t (has out)) × (result.0 ≤ NO_RUN) }
+pub fn full_least(file: &File, t: usize, out: u32) -> Euro
+    requires t_lt_weeks { t < file.now.layout.weeks }
+    ensures { (result.0 ≡ full_least (problem file.now) t (has out)) × (result.0 ≤ NO_RUN) }
 {
-    cost_in(least_score(words, l, t, out))
+    cost_in(least_score(file, t, out))
 }

@@ -92,7 +92,7 @@ fn advise(caps: &[u64; 16], weights: &[u64; 16], u: usize, out: u32, need: Kilo)
         }
         rate = ratio(weights[i], caps[i]);
         guess = sets::with(guess, i);
-        left = left.less(Kilo(caps[i]));
+        left = left.saturating_sub(Kilo(caps[i]));
     }
     Advice { rate, guess }
 }
@@ -118,7 +118,7 @@ fn guess_output(caps: &[u64; 16], u: usize, out: u32, guess: u32) -> Kilo
 {
     let mut sum = Kilo(0);
     for i in 0..u {
-        sum = sum.plus(Kilo(spared_part(caps, out, guess, i)));
+        sum += Kilo(spared_part(caps, out, guess, i));
     }
     sum
 }
@@ -190,7 +190,7 @@ fn put_unit(
     ensures { Cuts (complement (has out)) (entry caps.now) (surplus rate (entry caps.now) (entry weights.now)) rate (k + 1)
         cuts.new }
 {
-    let room = Kilo(cuts[k]).plus(free_capacity(caps, out, k));
+    let room = Kilo(cuts[k]) + free_capacity(caps, out, k);
     let gain = cuts[GAINS + k] + free_surplus(caps, weights, rate, out, k);
     cuts[k + 1] = room.0;
     cuts[GAINS + k + 1] = gain;
@@ -259,7 +259,7 @@ fn walk(
     if sets::has(out, top) {
         return low;
     }
-    let rest = need.less(Kilo(caps[top]));
+    let rest = need.saturating_sub(Kilo(caps[top]));
     walk(
         caps,
         weights,

@@ -10,9 +10,9 @@ use lib.ListN.{length}
 use borrow.Author.Tests.{le-ltb}
 use Rattle.sums.specs.NumSet.{has}
 use Rattle.sums.specs.Table.{entry}
-use Rattle.model.specs.declared.Layout.{Layout}
 use Rattle.model.specs.Problem.{Problem}
-use Rattle.model.specs.Words.{problem_of}
+use Rattle.instance.specs.declared.file.File.{File}
+use Rattle.instance.specs.File.{problem}
 use Rattle.instance.specs.Filed.{Filed}
 use Rattle.overhaul.specs.Range.{StartRange}
 use Rattle.overhaul.proofs.StartLaws.{range_in}
@@ -43,10 +43,10 @@ use Rattle.descent.proofs.DescentLaws.{earliest_next, earliest_spent, next_spent
 
 -- ---- a start that holds
 
-module _ (ws : List ℕ) (l : Layout) (us rows ys : List ℕ) (at : Visit) (w w' memo : List ℕ) (found : Descent)
-    (h : Found ws l us rows ys at w w' memo found) where
+module _ (file : File) (us rows ys : List ℕ) (at : Visit) (w w' memo : List ℕ) (found : Descent)
+    (h : Found file us rows ys at w w' memo found) where
   -- no plan has it, or the tries are spent
-  pub held_passes : (found.ending ≡ Earliest → ⊥) → HeldDone (problem_of ws) w w' at found
+  pub held_passes : (found.ending ≡ Earliest → ⊥) → HeldDone (problem file) w w' at found
   unfolding Found HeldDone
   held_passes off = record {
     lowered = record { carried = h.carried; earliest = λ z. absurd (off z) };
@@ -55,18 +55,18 @@ module _ (ws : List ℕ) (l : Layout) (us rows ys : List ℕ) (at : Visit) (w w'
 
   module _ (plan : found.ending ≡ Earliest) where
     -- on to the next unit
-    pub held_unit_due : (below : Visit) → IsAt at found.state below → UnitDue ws l us rows ys below w' memo
+    pub held_unit_due : (below : Visit) → IsAt at found.state below → UnitDue file us rows ys below w' memo
     unfolding Found UnitDue
     held_unit_due below is = h.unit plan below is
 
     -- whose descent ended
-    pub held_lowered : (below : Visit) (w'' : List ℕ) (r : Descent) → IsAt at found.state below → UnitDone (problem_of ws) w' w'' below r
-        → HeldDone (problem_of ws) w w'' at r
+    pub held_lowered : (below : Visit) (w'' : List ℕ) (r : Descent) → IsAt at found.state below → UnitDone (problem file) w' w'' below r
+        → HeldDone (problem file) w w'' at r
     unfolding Found UnitDone HeldDone
     held_lowered below w'' r is done = record {
       lowered = record {
-        carried = carried_next (problem_of ws) w w' w'' at.visit.state.used found.state.used r.state.used h.carried
-            (subst (λ (s : State). Carried (problem_of ws) w' s.used w'' r.state.used) is.state_is done.lowered.carried);
+        carried = carried_next (problem file) w w' w'' at.visit.state.used found.state.used r.state.used h.carried
+            (subst (λ (s : State). Carried (problem file) w' s.used w'' r.state.used) is.state_is done.lowered.carried);
         earliest = λ z c e.
             done.lowered.earliest z c (ap (λ (s : State). s.limit.0) is.state_is ∙ (h.limit_is plan ∙ e));
       };
@@ -80,17 +80,13 @@ held_falls p at below st n is e = let q = ap (λ (x : Node). p.units - x.unit) i
 
 -- ---- a start tried
 
-module _ (ws : List ℕ) (l : Layout) (us rows ys : List ℕ) (at : Visit) (w memo : List ℕ) (d : TryDue ws l us rows ys at w memo) where
-  f : Filed ws l
-  unfolding TryDue
-  f = d.walking.filed
-
+module _ (file : File) (us rows ys : List ℕ) (at : Visit) (w memo : List ℕ) (d : TryDue file us rows ys at w memo) where
   -- what judging it asks
-  pub try_starts : StartDue ws l us rows ys at w memo
+  pub try_starts : StartDue file us rows ys at w memo
   unfolding TryDue StartDue
   try_starts = record { walking = d.walking; startable = d.startable }
 
-  pub try_recalls : MemoTrue (problem_of ws) (price_in us) memo
+  pub try_recalls : MemoTrue (problem file) (price_in us) memo
   unfolding TryDue
   try_recalls = d.walking.recalls
 
@@ -100,40 +96,40 @@ module _ (ws : List ℕ) (l : Layout) (us rows ys : List ℕ) (at : Visit) (w me
   try_long = sym d.startable.opened.stands.bounds.values.long
 
   -- the tries are spent
-  pub try_given_up : (r : Descent) → r ≡ record { state = at.visit.state; ending = Spent } → TryDone (problem_of ws) w w at r
+  pub try_given_up : (r : Descent) → r ≡ record { state = at.visit.state; ending = Spent } → TryDone (problem file) w w at r
   unfolding TryDone
-  try_given_up r is = subst (TryDone (problem_of ws) w w at) (sym is) (record {
-    lowered = record { carried = carried_same (problem_of ws) w at.visit.state.used; earliest = λ z. earliest_spent Spent z refl };
+  try_given_up r is = subst (TryDone (problem file) w w at) (sym is) (record {
+    lowered = record { carried = carried_same (problem file) w at.visit.state.used; earliest = λ z. earliest_spent Spent z refl };
     fails = λ z. next_spent Spent z refl;
   })
 
-  module _ (zs memo₁ : List ℕ) (r : Result Visit ℕ) (j : StartTaken ws l us rows ys at w memo zs memo₁ r) where
+  module _ (zs memo₁ : List ℕ) (r : Result Visit ℕ) (j : StartTaken file us rows ys at w memo zs memo₁ r) where
     -- it fails
     pub try_fails : (b : ℕ) (s : State) (e : Descent) → r ≡ Err b → s ≡ tried_once at.visit.state → e ≡ record { state = s; ending = NextStart }
-        → TryDone (problem_of ws) w w at e
+        → TryDone (problem file) w w at e
     unfolding TryDue StartTaken TryDone
     try_fails b s e t es is =
-        let judged : Judging ws l us rows ys at w memo zs memo₁ (Err b) = subst (StartTaken ws l us rows ys at w memo zs memo₁) t j in
-        let h : Blames (problem_of ws) (placed_after at.visit.node) (entry at.visit.node.starts) at.visit.state.limit.0 b = judged.said in
+        let judged : Judging file us rows ys at w memo zs memo₁ (Err b) = subst (StartTaken file us rows ys at w memo zs memo₁) t j in
+        let h : Blames (problem file) (placed_after at.visit.node) (entry at.visit.node.starts) at.visit.state.limit.0 b = judged.said in
         let g : e.state ≡ tried_once at.visit.state = ap (λ (x : Descent). x.state) is ∙ es in
         let n : e.ending ≡ NextStart = ap (λ (x : Descent). x.ending) is in
         record {
-          lowered = record { carried = rw g (carried_same (problem_of ws) w at.visit.state.used); earliest = λ z. earliest_next e.ending z n };
+          lowered = record { carried = rw g (carried_same (problem file) w at.visit.state.used); earliest = λ z. earliest_next e.ending z n };
           fails = λ _. record {
             best_is = ap (λ (x : State). entry x.best) g;
             limit_is = ap (λ (x : State). x.limit.0) g;
             lowering = λ c m.
                 let z : c ≡ d.follows.cost = omega (arith, m, d.follows.limit_is) in
-                rw g (lowering_next (problem_of ws) (entry at.visit.state.best) c at.visit.node.unit at.visit.node.starts b d.follows.agrees
+                rw g (lowering_next (problem file) (entry at.visit.state.best) c at.visit.node.unit at.visit.node.starts b d.follows.agrees
                 (λ k q. order_next at.visit.node d.follows.order k (h.within k q))
-                (closed_more (problem_of ws) (has b) (has b) (entry at.visit.node.starts) at.visit.state.limit.0 (c + 1) (λ i y q. q) (omega (arith, m)) h.closed)
+                (closed_more (problem file) (has b) (has b) (entry at.visit.node.starts) at.visit.state.limit.0 (c + 1) (λ i y q. q) (omega (arith, m)) h.closed)
                 (rw z d.lowering));
           };
         }
 
     module _ (next : Visit) (e : r ≡ Ok next) where
-      it : Taken ws l us rows ys at w memo zs memo₁ next
-      it = taken ws l us rows ys at w memo zs memo₁ r j next e
+      it : Taken file us rows ys at w memo zs memo₁ next
+      it = taken file us rows ys at w memo zs memo₁ r j next e
 
       next_is : IsNext at.visit.node it.bound next.visit.node
       next_is = it.goes.node_is
@@ -142,10 +138,10 @@ module _ (ws : List ℕ) (l : Layout) (us rows ys : List ℕ) (at : Visit) (w me
       tried_is = it.goes.state_is
 
       -- it holds
-      pub try_held : (out : List ℕ) → RowsWith (problem_of ws) rows (entry at.visit.node.starts) at.visit.node.unit out → HeldDue ws l us out zs next w memo₁
+      pub try_held : (out : List ℕ) → RowsWith (problem file) rows (entry at.visit.node.starts) at.visit.node.unit out → HeldDue file us out zs next w memo₁
       unfolding TryDue HeldDue PlaceDue
       try_held out tallied =
-          let places : PlaceDue ws l us out zs next w memo₁ = taken_places ws l us rows ys at w memo zs memo₁ r j next e out tallied in
+          let places : PlaceDue file us out zs next w memo₁ = taken_places file us rows ys at w memo zs memo₁ r j next e out tallied in
           record {
             walking = places.walking;
             opened = places.opened;
@@ -160,20 +156,20 @@ module _ (ws : List ℕ) (l : Layout) (us rows ys : List ℕ) (at : Visit) (w me
           }
 
       -- with fewer units left
-      pub try_falls : (n : ℕ) → 3 * ((problem_of ws).units - at.visit.node.unit) - 1 ≡ n → 3 * ((problem_of ws).units - next.visit.node.unit) + 1 < n
+      pub try_falls : (n : ℕ) → 3 * ((problem file).units - at.visit.node.unit) - 1 ≡ n → 3 * ((problem file).units - next.visit.node.unit) + 1 < n
       unfolding TryDue
       try_falls n m = let q = ap (λ (x : Node). x.unit) next_is.is in omega (arith, d.startable.unit, q)
 
       -- and came back
-      pub try_held_done : (w₂ : List ℕ) (x : Descent) → HeldDone (problem_of ws) w w₂ next x → TryDone (problem_of ws) w w₂ at x
+      pub try_held_done : (w₂ : List ℕ) (x : Descent) → HeldDone (problem file) w w₂ next x → TryDone (problem file) w w₂ at x
       unfolding HeldDone TryDone
       try_held_done w₂ x done =
           let node_is = next_is.is in
           let one : at.visit.node.unit + 1 - 1 ≡ at.visit.node.unit = omega arith in
-          let y : Passed (problem_of ws) w w₂ (at.visit.node.unit + 1 - 1) (entry at.visit.node.starts (at.visit.node.unit + 1 - 1)) (tried_once at.visit.state) x
-          = subst₂ (λ (n : Node) (s : State). Passed (problem_of ws) w w₂ (n.unit - 1) (entry n.starts (n.unit - 1)) s x) node_is tried_is done in
-          let z : Passed (problem_of ws) w w₂ at.visit.node.unit (entry at.visit.node.starts at.visit.node.unit) (tried_once at.visit.state) x
-          = subst (λ (i : ℕ). Passed (problem_of ws) w w₂ i (entry at.visit.node.starts i) (tried_once at.visit.state) x) one y in
+          let y : Passed (problem file) w w₂ (at.visit.node.unit + 1 - 1) (entry at.visit.node.starts (at.visit.node.unit + 1 - 1)) (tried_once at.visit.state) x
+          = subst₂ (λ (n : Node) (s : State). Passed (problem file) w w₂ (n.unit - 1) (entry n.starts (n.unit - 1)) s x) node_is tried_is done in
+          let z : Passed (problem file) w w₂ at.visit.node.unit (entry at.visit.node.starts at.visit.node.unit) (tried_once at.visit.state) x
+          = subst (λ (i : ℕ). Passed (problem file) w w₂ i (entry at.visit.node.starts i) (tried_once at.visit.state) x) one y in
           record {
             lowered = record { carried = z.lowered.carried; earliest = z.lowered.earliest };
             fails = λ q. let k = z.fails q in record { best_is = k.best_is; limit_is = k.limit_is; lowering = k.lowering };
@@ -182,105 +178,101 @@ module _ (ws : List ℕ) (l : Layout) (us rows ys : List ℕ) (at : Visit) (w me
 -- ---- the starts of a unit
 
 -- a unit's starts from the first to before the end are tried, and those below v have failed
-pub record Starting (ws : List ℕ) (l : Layout) (us rows ys : List ℕ) (at : Visit) (w : List ℕ) (end : ℕ) (w₁ : List ℕ) (s : State) (v : ℕ) (memo : List ℕ) : Type 0 where
-  pub walking : Walking ws l us memo
-  pub opened : Opened (problem_of ws) w us rows ys at.visit.node at.visit.state
-  pub follows : Follows (problem_of ws) at.visit.node at.visit.state
-  pub inside : at.visit.node.unit < (problem_of ws).units
+pub record Starting (file : File) (us rows ys : List ℕ) (at : Visit) (w : List ℕ) (end : ℕ) (w₁ : List ℕ) (s : State) (v : ℕ) (memo : List ℕ) : Type 0 where
+  pub walking : Walking file us memo
+  pub opened : Opened (problem file) w us rows ys at.visit.node at.visit.state
+  pub follows : Follows (problem file) at.visit.node at.visit.state
+  pub inside : at.visit.node.unit < (problem file).units
   pub first : ℕ
   pub last : ℕ
   pub to_last : end ≡ last + 1
-  pub range : StartRange (problem_of ws) at.visit.node.unit first last
+  pub range : StartRange (problem file) at.visit.node.unit first last
   pub from : first ≤ v
-  pub ends : last ≤ (problem_of ws).weeks
-  pub carried : Carried (problem_of ws) w at.visit.state.used w₁ s.used
+  pub ends : last ≤ (problem file).weeks
+  pub carried : Carried (problem file) w at.visit.state.used w₁ s.used
   pub best_is : entry s.best ≡ entry at.visit.state.best
   pub limit_is : s.limit.0 ≡ at.visit.state.limit.0
-  pub lowering : Lowering (problem_of ws) (entry s.best) follows.cost at.visit.node.unit v
+  pub lowering : Lowering (problem file) (entry s.best) follows.cost at.visit.node.unit v
 
-unfoldable pub Starts : (ws : List ℕ) → Layout → (us rows ys : List ℕ) → Visit → (w : List ℕ) → (end : ℕ) → (w₁ : List ℕ) → State → (v : ℕ)
+unfoldable pub Starts : (file : File) → (us rows ys : List ℕ) → Visit → (w : List ℕ) → (end : ℕ) → (w₁ : List ℕ) → State → (v : ℕ)
     → (memo : List ℕ) → Type 0
-Starts ws l us rows ys at w end w₁ s v memo = Starting ws l us rows ys at w end w₁ s v memo
+Starts file us rows ys at w end w₁ s v memo = Starting file us rows ys at w end w₁ s v memo
 
-module _ (ws : List ℕ) (l : Layout) (us rows ys : List ℕ) (at : Visit) (w memo : List ℕ) (d : UnitDue ws l us rows ys at w memo) where
-  file : Filed ws l
+module _ (file : File) (us rows ys : List ℕ) (at : Visit) (w memo : List ℕ) (d : UnitDue file us rows ys at w memo) where
+  pub unit_filed : Filed file.words.now file.layout
   unfolding UnitDue
-  file = d.walking.filed
+  unit_filed = file.filed
 
-  pub unit_filed : Filed ws l
-  unfolding UnitDue
-  unit_filed = d.walking.filed
-
-  pub unit_recalls : MemoTrue (problem_of ws) (price_in us) memo
+  pub unit_recalls : MemoTrue (problem file) (price_in us) memo
   unfolding UnitDue
   unit_recalls = d.walking.recalls
 
   -- no unit is left
-  pub unit_whole : (s : State) (r : Descent) → l.units ≤ at.visit.node.unit → s ≡ at.visit.state → r ≡ record { state = s; ending = Earliest }
-      → UnitDone (problem_of ws) w w at r
+  pub unit_whole : (s : State) (r : Descent) → file.layout.units ≤ at.visit.node.unit → s ≡ at.visit.state → r ≡ record { state = s; ending = Earliest }
+      → UnitDone (problem file) w w at r
   unfolding UnitDue UnitDone
   unit_whole s r last es is =
       let g : r.state ≡ at.visit.state = ap (λ (x : Descent). x.state) is ∙ es in
-      let all : at.visit.node.unit ≡ (problem_of ws).units = omega (arith, d.unit, file.units_are) in
+      let all : at.visit.node.unit ≡ (problem file).units = omega (arith, d.unit, file.filed.units_are) in
       record {
         lowered = record {
-          carried = rw g (carried_same (problem_of ws) w at.visit.state.used);
+          carried = rw g (carried_same (problem file) w at.visit.state.used);
           earliest = λ _ c m.
               let z : c ≡ d.follows.cost = omega (arith, m, d.follows.limit_is) in
-              rw (g, z) (subst (Descending (problem_of ws) (entry at.visit.state.best) d.follows.cost) all d.descending);
+              rw (g, z) (subst (Descending (problem file) (entry at.visit.state.best) d.follows.cost) all d.descending);
         };
         over = λ z. earliest_next r.ending (ap (λ (x : Descent). x.ending) is) z;
       }
 
   -- the number after its last start fits a word
-  pub unit_fits : (last : ℕ) → last ≤ l.weeks → last + 1 < 18446744073709551616
-  unit_fits last ends = omega (arith, file.weeks_most)
+  pub unit_fits : (last : ℕ) → last ≤ file.layout.weeks → last + 1 < 18446744073709551616
+  unit_fits last ends = omega (arith, file.filed.weeks_most)
 
   -- no start was tried
-  pub unit_starts : (first last : ℕ) (s : State) → at.visit.node.unit < l.units → StartRange (problem_of ws) at.visit.node.unit first last → last ≤ l.weeks
-      → s ≡ at.visit.state → Starts ws l us rows ys at w (last + 1) w s first memo
+  pub unit_starts : (first last : ℕ) (s : State) → at.visit.node.unit < file.layout.units → StartRange (problem file) at.visit.node.unit first last → last ≤ file.layout.weeks
+      → s ≡ at.visit.state → Starts file us rows ys at w (last + 1) w s first memo
   unfolding UnitDue Starts
   unit_starts first last s inside range ends e = rw e (record {
     walking = d.walking;
     opened = d.opened;
     follows = d.follows;
-    inside = omega (arith, file.units_are);
+    inside = omega (arith, file.filed.units_are);
     first = first;
     last = last;
     to_last = refl;
     range = range;
     from = omega arith;
-    ends = omega (arith, file.weeks_are);
-    carried = carried_same (problem_of ws) w at.visit.state.used;
+    ends = omega (arith, file.filed.weeks_are);
+    carried = carried_same (problem file) w at.visit.state.used;
     best_is = refl;
     limit_is = refl;
     lowering = record {
       descending = d.descending;
-      tried = tried_none (problem_of ws) (first_units at.visit.node.unit) (entry at.visit.state.best) at.visit.node.unit first last (d.follows.cost + 1) range
-          (omega (arith, file.units_are));
+      tried = tried_none (problem file) (first_units at.visit.node.unit) (entry at.visit.state.best) at.visit.node.unit first last (d.follows.cost + 1) range
+          (omega (arith, file.filed.units_are));
     };
   })
 
-module _ (ws : List ℕ) (l : Layout) (us rows ys : List ℕ) (at : Visit) (w : List ℕ) (end : ℕ) (w₁ : List ℕ) (s : State) (v : ℕ) (memo₁ : List ℕ)
-    (h : Starts ws l us rows ys at w end w₁ s v memo₁) where
+module _ (file : File) (us rows ys : List ℕ) (at : Visit) (w : List ℕ) (end : ℕ) (w₁ : List ℕ) (s : State) (v : ℕ) (memo₁ : List ℕ)
+    (h : Starts file us rows ys at w end w₁ s v memo₁) where
   -- a unit is one of sixteen
   pub starts_few : at.visit.node.unit < 16
   unfolding Starts
-  starts_few = omega (arith, h.inside, h.walking.filed.units_are, h.walking.filed.units_most)
+  starts_few = omega (arith, h.inside, file.filed.units_are, file.filed.units_most)
 
   -- a start is one of 52
   pub starts_within : v < end → v ≤ 52
   unfolding Starts
-  starts_within here = omega (arith, h.to_last, h.ends, h.walking.filed.weeks_are, h.walking.filed.weeks_most)
+  starts_within here = omega (arith, h.to_last, h.ends, file.filed.weeks_are, file.filed.weeks_most)
 
-  pub starts_recalls : MemoTrue (problem_of ws) (price_in us) memo₁
+  pub starts_recalls : MemoTrue (problem file) (price_in us) memo₁
   unfolding Starts
   starts_recalls = h.walking.recalls
 
   -- none of them was the plan's
-  pub starts_out : (r : Descent) → r ≡ record { state = s; ending = Spent } → UnitDone (problem_of ws) w w₁ at r
+  pub starts_out : (r : Descent) → r ≡ record { state = s; ending = Spent } → UnitDone (problem file) w w₁ at r
   unfolding Starts UnitDone
-  starts_out r is = subst (UnitDone (problem_of ws) w w₁ at) (sym is) (record {
+  starts_out r is = subst (UnitDone (problem file) w w₁ at) (sym is) (record {
     lowered = record { carried = h.carried; earliest = λ z. earliest_spent Spent z refl };
     over = λ z. next_spent Spent z refl;
   })
@@ -294,14 +286,14 @@ module _ (ws : List ℕ) (l : Layout) (us rows ys : List ℕ) (at : Visit) (w : 
     unfolding Starts
     free = h.follows.order.each at.visit.node.unit ∙ le-ltb at.visit.node.unit at.visit.node.unit (omega arith)
 
-    needs : TryNeeds ws l us rows ys (record { visit = record { node = start_at at.visit.node at.visit.node.unit v; state = s }; order = below.order; first = below.first }) w₁ memo₁
+    needs : TryNeeds file us rows ys (record { visit = record { node = start_at at.visit.node at.visit.node.unit v; state = s }; order = below.order; first = below.first }) w₁ memo₁
     unfolding Starts
     needs = record {
       walking = h.walking;
-      startable = startable_at (problem_of ws) w us rows ys at.visit.node at.visit.state h.opened at.visit.node.unit v free w₁ s h.inside starts_few
-          (range_in (problem_of ws) at.visit.node.unit h.first h.last v h.range h.from (omega (arith, h.to_last)))
+      startable = startable_at (problem file) w us rows ys at.visit.node at.visit.state h.opened at.visit.node.unit v free w₁ s h.inside starts_few
+          (range_in (problem file) at.visit.node.unit h.first h.last v h.range h.from (omega (arith, h.to_last)))
           (omega (arith, h.limit_is, h.opened.small))
-          (held_carried (problem_of ws) w w₁ at.visit.state.used s.used h.opened.held h.carried);
+          (held_carried (problem file) w w₁ at.visit.state.used s.used h.opened.held h.carried);
       follows = record {
         order = record { each = h.follows.order.each };
         agrees = λ k m. put_below at.visit.node.starts at.visit.node.unit v k m ∙ (h.follows.agrees k m ∙ ap (λ (g : ℕ → ℕ). g k) (sym h.best_is));
@@ -312,30 +304,30 @@ module _ (ws : List ℕ) (l : Layout) (us rows ys : List ℕ) (at : Visit) (w : 
     }
 
     -- the next start is tried
-    pub starts_try : TryDue ws l us rows ys below w₁ memo₁
+    pub starts_try : TryDue file us rows ys below w₁ memo₁
     unfolding TryDue
     starts_try =
-        subst₂ (λ (n : Node) (x : State). TryNeeds ws l us rows ys (record { visit = record { node = n; state = x }; order = below.order; first = below.first }) w₁ memo₁)
+        subst₂ (λ (n : Node) (x : State). TryNeeds file us rows ys (record { visit = record { node = n; state = x }; order = below.order; first = below.first }) w₁ memo₁)
         (sym start.node_is) (sym start.state_is) needs
 
     -- with the same unit
-    pub starts_fall : (n : ℕ) → 3 * ((problem_of ws).units - at.visit.node.unit) ≡ n → 3 * ((problem_of ws).units - below.visit.node.unit) - 1 < n
+    pub starts_fall : (n : ℕ) → 3 * ((problem file).units - at.visit.node.unit) ≡ n → 3 * ((problem file).units - below.visit.node.unit) - 1 < n
     unfolding Starts
     starts_fall n e = let q = ap (λ (x : Node). x.unit) start.node_is in omega (arith, h.inside, q)
 
-    module _ (w₂ : List ℕ) (r : Descent) (done : TryDone (problem_of ws) w₁ w₂ below r) where
-      own : Passed (problem_of ws) w₁ w₂ at.visit.node.unit v s r
+    module _ (w₂ : List ℕ) (r : Descent) (done : TryDone (problem file) w₁ w₂ below r) where
+      own : Passed (problem file) w₁ w₂ at.visit.node.unit v s r
       unfolding TryDone
       own =
-          subst (λ (x : ℕ). Passed (problem_of ws) w₁ w₂ at.visit.node.unit x s r) (put_here at.visit.node.starts at.visit.node.unit v long)
-          (subst₂ (λ (n : Node) (x : State). Passed (problem_of ws) w₁ w₂ n.unit (entry n.starts n.unit) x r) start.node_is start.state_is done)
+          subst (λ (x : ℕ). Passed (problem file) w₁ w₂ at.visit.node.unit x s r) (put_here at.visit.node.starts at.visit.node.unit v long)
+          (subst₂ (λ (n : Node) (x : State). Passed (problem file) w₁ w₂ n.unit (entry n.starts n.unit) x r) start.node_is start.state_is done)
 
-      carries : Carried (problem_of ws) w at.visit.state.used w₂ r.state.used
+      carries : Carried (problem file) w at.visit.state.used w₂ r.state.used
       unfolding Starts
-      carries = carried_next (problem_of ws) w w₁ w₂ at.visit.state.used s.used r.state.used h.carried own.lowered.carried
+      carries = carried_next (problem file) w w₁ w₂ at.visit.state.used s.used r.state.used h.carried own.lowered.carried
 
       -- the descent has ended
-      pub starts_left : (r.ending ≡ NextStart → ⊥) → UnitDone (problem_of ws) w w₂ at r
+      pub starts_left : (r.ending ≡ NextStart → ⊥) → UnitDone (problem file) w w₂ at r
       unfolding Starts UnitDone
       starts_left off = record {
         lowered = record { carried = carries; earliest = λ z c e. own.lowered.earliest z c (h.limit_is ∙ e) };
@@ -343,13 +335,13 @@ module _ (ws : List ℕ) (l : Layout) (us rows ys : List ℕ) (at : Visit) (w : 
       }
 
       -- the next start
-      pub starts_next : (memo₂ : List ℕ) → r.ending ≡ NextStart → MemoTrue (problem_of ws) (price_in us) memo₂
-          → Starts ws l us rows ys at w end w₂ r.state (v + 1) memo₂
+      pub starts_next : (memo₂ : List ℕ) → r.ending ≡ NextStart → MemoTrue (problem file) (price_in us) memo₂
+          → Starts file us rows ys at w end w₂ r.state (v + 1) memo₂
       unfolding Starts
       starts_next memo₂ on recalls =
           let k = own.fails on in
           record {
-            walking = record { filed = h.walking.filed; dual = h.walking.dual; recalls = recalls };
+            walking = record { dual = h.walking.dual; recalls = recalls };
             opened = h.opened;
             follows = h.follows;
             inside = h.inside;

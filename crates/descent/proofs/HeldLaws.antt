@@ -11,12 +11,11 @@ use borrow.Author.Tests.{ltb-true, lt-ltb}
 use Rattle.sums.specs.NumSet.{has}
 use Rattle.sums.specs.Table.{entry}
 use Rattle.sums.proofs.LogicLaws.{true_false}
-use Rattle.model.specs.declared.Layout.{Layout}
 use Rattle.model.specs.Order.{Same}
-use Rattle.model.specs.Words.{problem_of}
 use Rattle.model.proofs.FileLaws.{ranged, fair}
+use Rattle.instance.specs.declared.file.File.{File}
+use Rattle.instance.specs.File.{problem}
 use Rattle.instance.specs.declared.Euro.{Euro}
-use Rattle.instance.specs.Filed.{Filed}
 use Rattle.blame.proofs.ClosedLaws.{closed_more}
 use Rattle.tables.specs.Tables.{price_in}
 use Rattle.relaxation.specs.Relaxed.{MemoTrue}
@@ -84,11 +83,7 @@ told_none step limit b r dead le is = subst (Told step limit) (sym is) (record {
 
 -- ---- a plan with the starts placed
 
-module _ (ws : List ℕ) (l : Layout) (us rows ys : List ℕ) (at : Visit) (w memo : List ℕ) (d : HeldDue ws l us rows ys at w memo) where
-  f : Filed ws l
-  unfolding HeldDue
-  f = d.walking.filed
-
+module _ (file : File) (us rows ys : List ℕ) (at : Visit) (w memo : List ℕ) (d : HeldDue file us rows ys at w memo) where
   -- the unit placed last is one of sixteen
   pub held_some : 1 ≤ at.visit.node.unit
   unfolding HeldDue
@@ -96,7 +91,7 @@ module _ (ws : List ℕ) (l : Layout) (us rows ys : List ℕ) (at : Visit) (w me
 
   pub held_few : at.visit.node.unit ≤ 16
   unfolding HeldDue
-  held_few = omega (arith, d.next, d.inside, (ranged ws f.passed).units_most)
+  held_few = omega (arith, d.next, d.inside, (ranged file.words.now file.filed.passed).units_most)
 
   unfoldable held_unit : ℕ
   unfolding HeldDue
@@ -107,34 +102,34 @@ module _ (ws : List ℕ) (l : Layout) (us rows ys : List ℕ) (at : Visit) (w me
   held_cost = d.cost
 
   -- a probe may begin
-  pub held_places : PlaceDue ws l us rows ys at w memo
+  pub held_places : PlaceDue file us rows ys at w memo
   unfolding HeldDue PlaceDue
   held_places = record { walking = d.walking; opened = d.opened }
 
   -- and it has a memo
-  pub held_recalls : MemoTrue (problem_of ws) (price_in us) memo
+  pub held_recalls : MemoTrue (problem file) (price_in us) memo
   unfolding HeldDue
   held_recalls = d.walking.recalls
 
   -- the plan that is known has the start
   pub found_kept : (keeps : Bool) (r : Descent) → Keeps at.visit.node at.visit.state.best keeps → keeps ≡ true
-      → r ≡ record { state = at.visit.state; ending = Earliest } → Found ws l us rows ys at w w memo r
+      → r ≡ record { state = at.visit.state; ending = Earliest } → Found file us rows ys at w w memo r
   unfolding HeldDue Found
   found_kept keeps r k so is_so =
       let e : r.state ≡ at.visit.state = ap (λ (x : Descent). x.state) is_so in
       let unit_is : at.visit.node.unit - 1 ≡ d.j = omega (arith, d.next) in
       let here : entry at.visit.node.starts d.j ≡ entry at.visit.state.best d.j
       = subst (λ (i : ℕ). entry at.visit.node.starts i ≡ entry at.visit.state.best i) unit_is (k.same so) in
-      let down : Descending (problem_of ws) (entry at.visit.state.best) d.cost (d.j + 1)
-      = lowering_kept (problem_of ws) (entry at.visit.state.best) d.cost d.j (entry at.visit.node.starts d.j) here d.lowering in
+      let down : Descending (problem file) (entry at.visit.state.best) d.cost (d.j + 1)
+      = lowering_kept (problem file) (entry at.visit.state.best) d.cost d.j (entry at.visit.node.starts d.j) here d.lowering in
       record {
-        carried = rw e (carried_same (problem_of ws) w at.visit.state.used);
+        carried = rw e (carried_same (problem file) w at.visit.state.used);
         limit_is = λ _. ap (λ (x : State). x.limit.0) e;
         unit = λ _ below is.
             let state_is : below.visit.state ≡ at.visit.state = is.state_is ∙ e in
             record {
               walking = d.walking;
-              opened = subst₂ (Opened (problem_of ws) w us rows ys) (sym is.node_is) (sym state_is) d.opened;
+              opened = subst₂ (Opened (problem file) w us rows ys) (sym is.node_is) (sym state_is) d.opened;
               unit = rw is.node_is (omega (arith, d.next, d.inside));
               follows = record {
                 order = rw is.node_is d.order;
@@ -151,12 +146,12 @@ module _ (ws : List ℕ) (l : Layout) (us rows ys : List ℕ) (at : Visit) (w me
       agrees here = rw d.next (below_more (λ k. entry at.visit.node.starts k ≡ entry at.visit.state.best k) d.j d.agrees here)
 
   module _ (w' memo' : List ℕ) (step : Step) (r : Descent)
-      (done : PlaceDone (problem_of ws) w w' at.visit.node at.visit.state step) (told : Told step at.visit.state.limit r) (recalls : MemoTrue (problem_of ws) (price_in us) memo') where
-    x : Probed (problem_of ws) (has at.visit.node.placed) (entry at.visit.node.starts) w w' at.visit.state step
+      (done : PlaceDone (problem file) w w' at.visit.node at.visit.state step) (told : Told step at.visit.state.limit r) (recalls : MemoTrue (problem file) (price_in us) memo') where
+    x : Probed (problem file) (has at.visit.node.placed) (entry at.visit.node.starts) w w' at.visit.state step
     unfolding PlaceDone
     x = done
 
-    carried : Carried (problem_of ws) w at.visit.state.used w' r.state.used
+    carried : Carried (problem file) w at.visit.state.used w' r.state.used
     carried = rw told.used_is x.goes.carried
 
     -- the probe's plan with the starts placed
@@ -175,25 +170,25 @@ module _ (ws : List ℕ) (l : Layout) (us rows ys : List ℕ) (at : Visit) (w me
       plan_has k m =
           (x.improves.reached fell).agrees k (omega (arith, d.next, d.inside)) (d.order.each k ∙ lt-ltb k at.visit.node.unit m)
 
-      down : Descending (problem_of ws) (entry step.state.best) held_cost (held_unit + 1)
+      down : Descending (problem file) (entry step.state.best) held_cost (held_unit + 1)
       unfolding HeldDue held_cost held_unit
       down =
-          lowering_found (problem_of ws) (entry at.visit.state.best) d.cost d.j (entry step.state.best) (entry at.visit.node.starts d.j)
-          step.state.limit.0 (fair ws f.passed)
+          lowering_found (problem file) (entry at.visit.state.best) d.cost d.j (entry step.state.best) (entry at.visit.node.starts d.j)
+          step.state.limit.0 (fair file.words.now file.filed.passed)
           (λ k m. sym (d.agrees k m) ∙ sym (plan_has k (omega (arith, d.next)))) (plan_has d.j (omega (arith, d.next)))
           (x.improves.reached fell).plan_at (omega (arith, fell, d.limit_is)) d.lowering
 
-      unit_next : (below : Visit) → IsAt at r.state below → UnitNeeds ws l us rows ys below w' memo'
+      unit_next : (below : Visit) → IsAt at r.state below → UnitNeeds file us rows ys below w' memo'
       unfolding HeldDue held_cost held_unit
       unit_next below is = record {
-        walking = record { filed = d.walking.filed; dual = d.walking.dual; recalls = recalls };
-        opened = subst₂ (Opened (problem_of ws) w' us rows ys) (sym is.node_is) (sym is.state_is) (record {
+        walking = record { dual = d.walking.dual; recalls = recalls };
+        opened = subst₂ (Opened (problem file) w' us rows ys) (sym is.node_is) (sym is.state_is) (record {
           within = d.opened.within;
           long = d.opened.long;
           stands = d.opened.stands;
           tallied = d.opened.tallied;
           small = rw limit_is d.opened.small;
-          held = held_carried (problem_of ws) w w' at.visit.state.used r.state.used d.opened.held carried;
+          held = held_carried (problem file) w w' at.visit.state.used r.state.used d.opened.held carried;
         });
         unit = rw is.node_is (omega (arith, d.next, d.inside));
         follows = record {
@@ -220,19 +215,19 @@ module _ (ws : List ℕ) (l : Layout) (us rows ys : List ℕ) (at : Visit) (w me
       num_same = omega (arith, stays, x.improves.falls)
 
       closes : (c : ℕ) → at.visit.state.limit.0 ≡ c + 1 → (k : Walked) → step.walked ≡ k → Unspent k
-          → Lowering (problem_of ws) (entry at.visit.state.best) c held_unit (entry at.visit.node.starts held_unit + 1)
+          → Lowering (problem file) (entry at.visit.state.best) c held_unit (entry at.visit.node.starts held_unit + 1)
       unfolding HeldDue held_unit
       closes c e (Spent m) q u = absurd u
       closes c e (Dead b) q u =
           let z : c ≡ d.cost = omega (arith, e, d.limit_is) in
-          let h : Blames (problem_of ws) (has at.visit.node.placed) (entry at.visit.node.starts) step.state.limit.0 b
-          = subst (Says (problem_of ws) (has at.visit.node.placed) (entry at.visit.node.starts) step.state.limit.0) q x.says in
-          lowering_next (problem_of ws) (entry at.visit.state.best) c d.j at.visit.node.starts b d.agrees
+          let h : Blames (problem file) (has at.visit.node.placed) (entry at.visit.node.starts) step.state.limit.0 b
+          = subst (Says (problem file) (has at.visit.node.placed) (entry at.visit.node.starts) step.state.limit.0) q x.says in
+          lowering_next (problem file) (entry at.visit.state.best) c d.j at.visit.node.starts b d.agrees
           (λ k g. omega (arith, ltb-true k at.visit.node.unit (sym (d.order.each k) ∙ h.within k g), d.next))
-          (closed_more (problem_of ws) (has b) (has b) (entry at.visit.node.starts) step.state.limit.0 (c + 1) (λ i m g. g) (omega (arith, num_same, e)) h.closed)
+          (closed_more (problem file) (has b) (has b) (entry at.visit.node.starts) step.state.limit.0 (c + 1) (λ i m g. g) (omega (arith, num_same, e)) h.closed)
           (rw z d.lowering)
 
-      failed : Failed (problem_of ws) (at.visit.node.unit - 1) (entry at.visit.node.starts (at.visit.node.unit - 1)) at.visit.state r.state
+      failed : Failed (problem file) (at.visit.node.unit - 1) (entry at.visit.node.starts (at.visit.node.unit - 1)) at.visit.state r.state
       unfolding HeldDue held_unit
       failed =
           let unit_is : at.visit.node.unit - 1 ≡ d.j = omega (arith, d.next) in
@@ -243,6 +238,6 @@ module _ (ws : List ℕ) (l : Layout) (us rows ys : List ℕ) (at : Visit) (w me
           })
 
     -- as it told
-    pub found_told : Found ws l us rows ys at w w' memo' r
+    pub found_told : Found file us rows ys at w w' memo' r
     unfolding Found
     found_told = record { carried = carried; limit_is = limit_is; unit = unit_next; fails = failed }

@@ -2,11 +2,11 @@
 -- Assumes nothing.
 use Rattle.std.specs.Prelude.{ℕ, ◌+◌, ◌-◌, ◌≤◌, ◌<◌, ◌≡◌, Bool, true, List}
 use Rattle.sums.specs.Table.{entry}
-use Rattle.model.specs.declared.Layout.{Layout}
 use Rattle.model.specs.Problem.{Problem}
 use Rattle.model.specs.Order.{Same}
 use Rattle.model.specs.Nogood.{MOST_LIMIT}
-use Rattle.model.specs.Words.{problem_of}
+use Rattle.instance.specs.declared.file.File.{File}
+use Rattle.instance.specs.File.{problem}
 use Rattle.instance.specs.declared.Euro.{Euro}
 use Rattle.blame.specs.Closed.{Settled}
 use Rattle.blame.specs.Placed.{first_units}
@@ -43,41 +43,41 @@ pub record Follows (p : Problem) (node : Node) (st : State) : Type 0 where
   pub limit_is : st.limit.0 ≡ cost + 1
 
 -- before a unit's starts are tried
-pub record UnitNeeds (ws : List ℕ) (l : Layout) (us rows ys : List ℕ) (at : Visit) (w memo : List ℕ) : Type 0 where
-  pub walking : Walking ws l us memo
-  pub opened : Opened (problem_of ws) w us rows ys at.visit.node at.visit.state
-  pub unit : at.visit.node.unit ≤ (problem_of ws).units
-  pub follows : Follows (problem_of ws) at.visit.node at.visit.state
-  pub descending : Descending (problem_of ws) (entry at.visit.state.best) follows.cost at.visit.node.unit
+pub record UnitNeeds (file : File) (us rows ys : List ℕ) (at : Visit) (w memo : List ℕ) : Type 0 where
+  pub walking : Walking file us memo
+  pub opened : Opened (problem file) w us rows ys at.visit.node at.visit.state
+  pub unit : at.visit.node.unit ≤ (problem file).units
+  pub follows : Follows (problem file) at.visit.node at.visit.state
+  pub descending : Descending (problem file) (entry at.visit.state.best) follows.cost at.visit.node.unit
 
-unfoldable pub UnitDue : (ws : List ℕ) → Layout → (us rows ys : List ℕ) → Visit → (w memo : List ℕ) → Type 0
-UnitDue ws l us rows ys at w memo = UnitNeeds ws l us rows ys at w memo
+unfoldable pub UnitDue : (file : File) → (us rows ys : List ℕ) → Visit → (w memo : List ℕ) → Type 0
+UnitDue file us rows ys at w memo = UnitNeeds file us rows ys at w memo
 
 -- before one of them is tried: those below it have failed
-pub record TryNeeds (ws : List ℕ) (l : Layout) (us rows ys : List ℕ) (at : Visit) (w memo : List ℕ) : Type 0 where
-  pub walking : Walking ws l us memo
-  pub startable : Startable (problem_of ws) w us rows ys at.visit.node at.visit.state
-  pub follows : Follows (problem_of ws) at.visit.node at.visit.state
-  pub lowering : Lowering (problem_of ws) (entry at.visit.state.best) follows.cost at.visit.node.unit (entry at.visit.node.starts at.visit.node.unit)
+pub record TryNeeds (file : File) (us rows ys : List ℕ) (at : Visit) (w memo : List ℕ) : Type 0 where
+  pub walking : Walking file us memo
+  pub startable : Startable (problem file) w us rows ys at.visit.node at.visit.state
+  pub follows : Follows (problem file) at.visit.node at.visit.state
+  pub lowering : Lowering (problem file) (entry at.visit.state.best) follows.cost at.visit.node.unit (entry at.visit.node.starts at.visit.node.unit)
 
-unfoldable pub TryDue : (ws : List ℕ) → Layout → (us rows ys : List ℕ) → Visit → (w memo : List ℕ) → Type 0
-TryDue ws l us rows ys at w memo = TryNeeds ws l us rows ys at w memo
+unfoldable pub TryDue : (file : File) → (us rows ys : List ℕ) → Visit → (w memo : List ℕ) → Type 0
+TryDue file us rows ys at w memo = TryNeeds file us rows ys at w memo
 
 -- it holds: unit j is placed at it, and the node's own is the next
-pub record HeldNeeds (ws : List ℕ) (l : Layout) (us rows ys : List ℕ) (at : Visit) (w memo : List ℕ) : Type 0 where
-  pub walking : Walking ws l us memo
-  pub opened : Opened (problem_of ws) w us rows ys at.visit.node at.visit.state
+pub record HeldNeeds (file : File) (us rows ys : List ℕ) (at : Visit) (w memo : List ℕ) : Type 0 where
+  pub walking : Walking file us memo
+  pub opened : Opened (problem file) w us rows ys at.visit.node at.visit.state
   pub j : ℕ
   pub next : at.visit.node.unit ≡ j + 1
-  pub inside : j < (problem_of ws).units
+  pub inside : j < (problem file).units
   pub order : InOrder at.visit.node
   pub agrees : Same j (entry at.visit.node.starts) (entry at.visit.state.best)
   pub cost : ℕ
   pub limit_is : at.visit.state.limit.0 ≡ cost + 1
-  pub lowering : Lowering (problem_of ws) (entry at.visit.state.best) cost j (entry at.visit.node.starts j)
+  pub lowering : Lowering (problem file) (entry at.visit.state.best) cost j (entry at.visit.node.starts j)
 
-unfoldable pub HeldDue : (ws : List ℕ) → Layout → (us rows ys : List ℕ) → Visit → (w memo : List ℕ) → Type 0
-HeldDue ws l us rows ys at w memo = HeldNeeds ws l us rows ys at w memo
+unfoldable pub HeldDue : (file : File) → (us rows ys : List ℕ) → Visit → (w memo : List ℕ) → Type 0
+HeldDue file us rows ys at w memo = HeldNeeds file us rows ys at w memo
 
 -- ---- after
 
@@ -130,24 +130,24 @@ unfoldable pub HeldDone : Problem → (w w' : List ℕ) → Visit → Descent �
 HeldDone p w w' at r = Passed p w w' (at.visit.node.unit - 1) (entry at.visit.node.starts (at.visit.node.unit - 1)) at.visit.state r
 
 -- a plan was looked for: where there is one the next unit's starts are to be tried
-pub record Finding (ws : List ℕ) (l : Layout) (us rows ys : List ℕ) (at : Visit) (w w' memo : List ℕ) (r : Descent) : Type 0 where
-  pub carried : Carried (problem_of ws) w at.visit.state.used w' r.state.used
+pub record Finding (file : File) (us rows ys : List ℕ) (at : Visit) (w w' memo : List ℕ) (r : Descent) : Type 0 where
+  pub carried : Carried (problem file) w at.visit.state.used w' r.state.used
   pub limit_is : r.ending ≡ Earliest → r.state.limit.0 ≡ at.visit.state.limit.0
-  pub unit : r.ending ≡ Earliest → (below : Visit) → IsAt at r.state below → UnitNeeds ws l us rows ys below w' memo
-  pub fails : r.ending ≡ NextStart → Failed (problem_of ws) (at.visit.node.unit - 1) (entry at.visit.node.starts (at.visit.node.unit - 1)) at.visit.state r.state
+  pub unit : r.ending ≡ Earliest → (below : Visit) → IsAt at r.state below → UnitNeeds file us rows ys below w' memo
+  pub fails : r.ending ≡ NextStart → Failed (problem file) (at.visit.node.unit - 1) (entry at.visit.node.starts (at.visit.node.unit - 1)) at.visit.state r.state
 
-unfoldable pub Found : (ws : List ℕ) → Layout → (us rows ys : List ℕ) → Visit → (w w' memo : List ℕ) → Descent → Type 0
-Found ws l us rows ys at w w' memo r = Finding ws l us rows ys at w w' memo r
+unfoldable pub Found : (file : File) → (us rows ys : List ℕ) → Visit → (w w' memo : List ℕ) → Descent → Type 0
+Found file us rows ys at w w' memo r = Finding file us rows ys at w w' memo r
 
 -- ---- the whole descent
 
 -- the state's plan is of the least cost, which is the state's limit
-pub record DescentDue (ws : List ℕ) (l : Layout) (us : List ℕ) (st : State) (w memo : List ℕ) : Type 0 where
-  pub walking : Walking ws l us memo
+pub record DescentDue (file : File) (us : List ℕ) (st : State) (w memo : List ℕ) : Type 0 where
+  pub walking : Walking file us memo
   pub small : st.limit.0 < MOST_LIMIT
-  pub held : TableTrue (problem_of ws) w st.used
-  pub least : AllSettled (problem_of ws) st.limit.0
-  pub plan : PlanAt (problem_of ws) (entry st.best) st.limit.0
+  pub held : TableTrue (problem file) w st.used
+  pub least : AllSettled (problem file) st.limit.0
+  pub plan : PlanAt (problem file) (entry st.best) st.limit.0
 
 -- its earliest was found
 pub record Descended (p : Problem) (w w' : List ℕ) (st : State) (r : Descent) : Type 0 where

@@ -5,14 +5,13 @@
 
 ghost use Rattle.std.specs.Prelude.{◌≡◌, ◌<◌, ◌≤◌};
 ghost use Rattle.sums.specs.Table.{entry};
-ghost use Rattle.model.specs.Words.{problem_of};
 ghost use Rattle.tables.specs.Tables.{price_in};
 ghost use Rattle.relaxation.specs.Relaxed.{MemoTrue};
 ghost use Rattle.descent.specs.Descent.{DescentDue, Descended, UnitDue, TryDue, HeldDue, Told, Found, UnitDone, TryDone, HeldDone, IsAt, Keeps};
+ghost use Rattle.instance.specs.File.{problem};
 
 use dual::Node;
-use instance::Euro;
-use model::Layout;
+use instance::{Euro, File};
 use probe::Visit;
 use state::{State, Step, Walked};
 use tables::TABLES;
@@ -69,25 +68,16 @@ fn tell(step: Step, limit: Euro) -> Descent
 }
 
 // A plan below the limit with the starts of the units placed: the one that is known where it has the last of them, else that of a probe.
-fn find_plan(
-    words: &[u32],
-    l: Layout,
-    tables: &[u32; TABLES],
-    rows: &[u64; 52],
-    values: &[u32; 52],
-    at: Visit,
-    table: &mut [u32],
-    memo: &mut [u32],
-) -> Descent
-    requires { HeldDue words.now l tables.now rows.now values.now at table.old memo.old }
-    ensures answer { Found words.now l tables.now rows.now values.now at table.old table.new memo.new result }
-    ensures recalls { MemoTrue (problem_of words.now) (price_in tables.now) memo.new }
+fn find_plan(file: &File, tables: &[u32; TABLES], rows: &[u64; 52], values: &[u32; 52], at: Visit, table: &mut [u32], memo: &mut [u32]) -> Descent
+    requires { HeldDue file.now tables.now rows.now values.now at table.old memo.old }
+    ensures answer { Found file.now tables.now rows.now values.now at table.old table.new memo.new result }
+    ensures recalls { MemoTrue (problem file.now) (price_in tables.now) memo.new }
 {
     let st = at.visit.state;
     if keeps_last(at.visit.node, st.best) {
         return ended(st, Ending::Earliest);
     }
-    let step = probe::place(words, l, tables, rows, values, at, table, memo);
+    let step = probe::place(file, tables, rows, values, at, table, memo);
     tell(step, st.limit)
 }
 
@@ -105,25 +95,16 @@ fn in_state(at: Visit, state: State) -> Visit
 
 // The unit placed last has a start that holds: where a plan has it, the next unit.
 #[cycle(lower_lower_held_lower_start)]
-fn lower_held(
-    words: &[u32],
-    l: Layout,
-    tables: &[u32; TABLES],
-    rows: &[u64; 52],
-    values: &[u32; 52],
-    at: Visit,
-    table: &mut [u32],
-    memo: &mut [u32],
-) -> Descent
-    requires { HeldDue words.now l tables.now rows.now values.now at table.old memo.old }
-    ensures answer { HeldDone (problem_of words.now) table.old table.new at result }
-    ensures recalls { MemoTrue (problem_of words.now) (price_in tables.now) memo.new }
+fn lower_held(file: &File, tables: &[u32; TABLES], rows: &[u64; 52], values: &[u32; 52], at: Visit, table: &mut [u32], memo: &mut [u32]) -> Descent
+    requires { HeldDue file.now tables.now rows.now values.now at table.old memo.old }
+    ensures answer { HeldDone (problem file.now) table.old table.new at result }
+    ensures recalls { MemoTrue (problem file.now) (price_in tables.now) memo.new }
 {
-    let found = find_plan(words, l, tables, rows, values, at, table, memo);
+    let found = find_plan(file, tables, rows, values, at, table, memo);
     match found.ending {
         Ending::Earliest => {
             let below = in_state(at, found.state);
-            lower(words, l, tables, rows, values, below, table, memo)
+            lower(file, tables, rows, values, below, table, memo)
         }
         _ => found,
     }
@@ -131,19 +112,10 @@ fn lower_held(
 
 // Tries a start of the node's unit.
 #[cycle(lower_lower_held_lower_start)]
-fn lower_start(
-    words: &[u32],
-    l: Layout,
-    tables: &[u32; TABLES],
-    rows: &[u64; 52],
-    values: &[u32; 52],
-    at: Visit,
-    table: &mut [u32],
-    memo: &mut [u32],
-) -> Descent
-    requires { TryDue words.now l tables.now rows.now values.now at table.old memo.old }
-    ensures answer { TryDone (problem_of words.now) table.old table.new at result }
-    ensures recalls { MemoTrue (problem_of words.now) (price_in tables.now) memo.new }
+fn lower_start(file: &File, tables: &[u32; TABLES], rows: &[u64; 52], values: &[u32; 52], at: Visit, table: &mut [u32], memo: &mut [u32]) -> Descent
+    requires { TryDue file.now tables.now rows.now values.now at table.old memo.old }
+    ensures answer { TryDone (problem file.now) table.old table.new at result }
+    ensures recalls { MemoTrue (problem file.now) (price_in tables.now) memo.new }
 {
     let st = at.visit.state;
     let node = at.visit.node;
@@ -151,41 +123,32 @@ fn lower_start(
         return ended(st, Ending::Spent);
     }
     let mut next = *values;
-    match probe::judge_start(words, l, tables, rows, at, &table[..], &mut next, memo) {
+    match probe::judge_start(file, tables, rows, at, &table[..], &mut next, memo) {
         Err(_) => ended(state::tried(st), Ending::NextStart),
         Ok(below) => {
-            let out = bound::placed_rows(words, l, rows, node.starts, node.unit);
-            lower_held(words, l, tables, &out, &next, below, table, memo)
+            let out = bound::placed_rows(file, rows, node.starts, node.unit);
+            lower_held(file, tables, &out, &next, below, table, memo)
         }
     }
 }
 
 // The starts of the node's unit in turn, as far as a plan has one; where no unit is left the plan is the earliest.
 #[cycle(lower_lower_held_lower_start)]
-fn lower(
-    words: &[u32],
-    l: Layout,
-    tables: &[u32; TABLES],
-    rows: &[u64; 52],
-    values: &[u32; 52],
-    at: Visit,
-    table: &mut [u32],
-    memo: &mut [u32],
-) -> Descent
-    requires { UnitDue words.now l tables.now rows.now values.now at table.old memo.old }
-    ensures answer { UnitDone (problem_of words.now) table.old table.new at result }
-    ensures recalls { MemoTrue (problem_of words.now) (price_in tables.now) memo.new }
+fn lower(file: &File, tables: &[u32; TABLES], rows: &[u64; 52], values: &[u32; 52], at: Visit, table: &mut [u32], memo: &mut [u32]) -> Descent
+    requires { UnitDue file.now tables.now rows.now values.now at table.old memo.old }
+    ensures answer { UnitDone (problem file.now) table.old table.new at result }
+    ensures recalls { MemoTrue (problem file.now) (price_in tables.now) memo.new }
 {
     let unit = at.visit.node.unit;
     let mut s = at.visit.state;
-    if l.units <= unit {
+    if file.layout.units <= unit {
         return ended(s, Ending::Earliest);
     }
-    let range = overhaul::starts_of(words, l, unit);
+    let range = overhaul::starts_of(file, unit);
     // Each time round, no schedule with the starts before this unit's and a start of it below v costs as little as the plan.
     for v in range.first..range.last + 1 {
         let below = probe::with_start(at, unit, v, s);
-        let r = lower_start(words, l, tables, rows, values, below, table, memo);
+        let r = lower_start(file, tables, rows, values, below, table, memo);
         let Ending::NextStart = r.ending else {
             return r;
         };
@@ -198,28 +161,21 @@ fn lower(
 
 // From the state's plan, whose cost is the state's limit and the least: the earliest plan of that cost, in a state under a limit one euro above it; or
 // the tries are spent.
-pub fn descend(
-    words: &[u32],
-    l: Layout,
-    tables: &[u32; TABLES],
-    st: State,
-    table: &mut [u32],
-    memo: &mut [u32],
-) -> Descent
-    requires { DescentDue words.now l tables.now st table.old memo.old }
-    ensures answer { Descended (problem_of words.now) table.old table.new st result }
-    ensures recalls { MemoTrue (problem_of words.now) (price_in tables.now) memo.new }
+pub fn descend(file: &File, tables: &[u32; TABLES], st: State, table: &mut [u32], memo: &mut [u32]) -> Descent
+    requires { DescentDue file.now tables.now st table.old memo.old }
+    ensures answer { Descended (problem file.now) table.old table.new st result }
+    ensures recalls { MemoTrue (problem file.now) (price_in tables.now) memo.new }
 {
-    let limit = st.limit.plus(Euro(1));
+    let limit = st.limit + Euro(1);
     let s = state::limited(st, limit);
-    let v = bound::root(words, l, tables, limit);
+    let v = bound::root(file, tables, limit);
     match v {
         Err(_) => ended(s, Ending::Spent),
         Ok(bound) => {
             let rows = bound::no_rows();
             let values = bound::first_values(tables);
             let at = probe::root_visit(bound, s, true);
-            lower(words, l, tables, &rows, &values, at, table, memo)
+            lower(file, tables, &rows, &values, at, table, memo)
         }
     }
 }

@@ -14,13 +14,14 @@ use Rattle.sums.specs.NumSet.{NumSet, has}
 use Rattle.sums.specs.Table.{entry}
 use Rattle.sums.proofs.LogicLaws.{true_false, and_left}
 use Rattle.sums.proofs.LoopLaws.{sum_next}
-use Rattle.model.specs.declared.Layout.{Layout}
 use Rattle.model.specs.Problem.{Problem}
 use Rattle.model.specs.Domain.{permitted}
 use Rattle.model.specs.Schedule.{in_span, out_in}
 use Rattle.model.specs.Words.{problem_of}
 use Rattle.model.proofs.DomainLaws.{permits_ends, span_from, span_below, span_of}
 use Rattle.model.proofs.FileLaws.{fair}
+use Rattle.instance.specs.declared.file.File.{File}
+use Rattle.instance.specs.File.{problem}
 use Rattle.instance.specs.Filed.{Filed}
 use Rattle.overhaul.proofs.UpkeepLaws.{start_some, ends_within}
 use Rattle.tables.specs.Tables.{excess_in, root_in, total_in}
@@ -32,25 +33,22 @@ use Rattle.dual.proofs.BoundsLaws.{bounds_closed, bounds_dropped}
 
 -- ---- a unit's start
 
-module _ (ws : List ℕ) (l : Layout) (starts : List ℕ) (i : ℕ) (xs : List ℕ) (at : OverhaulAt ws l starts i xs) where
-  f : Filed ws l
-  f = at.filed
-
-  h : i < l.units
+module _ (file : File) (starts : List ℕ) (i : ℕ) (xs : List ℕ) (at : OverhaulAt file starts i xs) where
+  h : i < file.layout.units
   h = at.unit
 
-  e : permitted (problem_of ws) i (entry starts i) ≡ true
+  e : permitted (problem file) i (entry starts i) ≡ true
   e = at.permits
 
   -- it counts from 1
   pub own_some : 1 ≤ get_or starts i 0
   unfolding entry
-  own_some = start_some ws l i (entry starts i) f h e
+  own_some = start_some file i (entry starts i) h e
 
   -- the overhaul ends in the season
-  pub own_ends : (d : ℕ) → d ≡ (problem_of ws).duration i → get_or starts i 0 - 1 + d ≤ 52
+  pub own_ends : (d : ℕ) → d ≡ (problem file).duration i → get_or starts i 0 - 1 + d ≤ 52
   unfolding entry
-  own_ends d is = omega (arith, ends_within ws l i (entry starts i) f h e d is, f.weeks_most)
+  own_ends d is = omega (arith, ends_within file i (entry starts i) h e d is, file.filed.weeks_most)
 
   -- and is one of 52
   pub own_few : get_or starts i 0 < 64
@@ -58,10 +56,10 @@ module _ (ws : List ℕ) (l : Layout) (starts : List ℕ) (i : ℕ) (xs : List �
   own_few =
       omega (
         arith,
-        permits_ends (problem_of ws) i (entry starts i) e,
-        (fair ws f.passed).some_weeks i (rw f.units_are h),
-        f.weeks_are,
-        f.weeks_most,
+        permits_ends (problem file) i (entry starts i) e,
+        (fair file.words.now file.filed.passed).some_weeks i (rw file.filed.units_are h),
+        file.filed.weeks_are,
+        file.filed.weeks_most,
       )
 
 -- ---- what is lost
@@ -112,13 +110,13 @@ pub back_ended : (us : List ℕ) (a k d : ℕ) (xs ys : List ℕ) → BackTo us 
 back_ended us a k d xs ys h m n = let e : k ≡ d = omega arith in rw e at h
 
 -- they are those of the overhaul
-pub back_of : (ws : List ℕ) (l : Layout) (us starts xs ys : List ℕ) (i d : ℕ) → OverhaulAt ws l starts i xs → d ≡ (problem_of ws).duration i
-    → BackTo us (get_or starts i 0 - 1) d xs ys → PutBack (problem_of ws) us (entry starts) i xs ys
+pub back_of : (file : File) (us starts xs ys : List ℕ) (i d : ℕ) → OverhaulAt file starts i xs → d ≡ (problem file).duration i
+    → BackTo us (get_or starts i 0 - 1) d xs ys → PutBack (problem file) us (entry starts) i xs ys
 unfolding out_in entry
-back_of ws l us starts xs ys i d at is h = record {
+back_of file us starts xs ys i d at is h = record {
   long = h.long;
   inside = λ t b o.
-      let one = own_some ws l starts i xs at in
+      let one = own_some file starts i xs at in
       h.inside t (omega (arith, span_from s dur t o)) (omega (arith, span_below s dur t o));
   outside = λ t b o. out t o (dec_lt t (s - 1)) (dec_lt t (s - 1 + dur));
 }
@@ -127,29 +125,29 @@ back_of ws l us starts xs ys i d at is h = record {
     s = get_or starts i 0
 
     dur : ℕ
-    dur = (problem_of ws).duration i
+    dur = (problem file).duration i
 
-    out : (t : ℕ) → in_span (get_or starts i 0) ((problem_of ws).duration i) t ≡ false → Dec (t < get_or starts i 0 - 1)
-        → Dec (t < get_or starts i 0 - 1 + (problem_of ws).duration i) → entry ys t ≡ entry xs t
+    out : (t : ℕ) → in_span (get_or starts i 0) ((problem file).duration i) t ≡ false → Dec (t < get_or starts i 0 - 1)
+        → Dec (t < get_or starts i 0 - 1 + (problem file).duration i) → entry ys t ≡ entry xs t
     out t o (yes b) _ = h.before t b
     out t o (no b) (no c) = h.after t (omega arith)
     out t o (no b) (yes c) =
-        let one = own_some ws l starts i xs at in
+        let one = own_some file starts i xs at in
         true_false (sym (span_of s dur t (omega arith) (omega arith)) ∙ o)
 
 -- ---- a unit dropped
 
 -- the unit stays
-pub dropped_none : (ws : List ℕ) (l : Layout) (us starts xs : List ℕ) (i wanted : ℕ) (kept : BlameLeft) → Dropping ws l us starts i wanted kept xs
-    → Dropped (problem_of ws) us (entry starts) wanted kept kept xs
-dropped_none ws l us starts xs i wanted kept d = record { thins = d.thins; fewer = λ n e. e }
+pub dropped_none : (file : File) (us starts xs : List ℕ) (i wanted : ℕ) (kept : BlameLeft) → Dropping file us starts i wanted kept xs
+    → Dropped (problem file) us (entry starts) wanted kept kept xs
+dropped_none file us starts xs i wanted kept d = record { thins = d.thins; fewer = λ n e. e }
 
 -- the others still keep the bound where it is wanted
-pub dropped_one : (ws : List ℕ) (l : Layout) (us starts xs ys : List ℕ) (i wanted v : ℕ) (kept r : BlameLeft) → Dropping ws l us starts i wanted kept xs
-    → v ≡ loss_of (problem_of ws) us (entry starts) xs i → wanted + v ≤ kept.sum.0 → PutBack (problem_of ws) us (entry starts) i xs ys
+pub dropped_one : (file : File) (us starts xs ys : List ℕ) (i wanted v : ℕ) (kept r : BlameLeft) → Dropping file us starts i wanted kept xs
+    → v ≡ loss_of (problem file) us (entry starts) xs i → wanted + v ≤ kept.sum.0 → PutBack (problem file) us (entry starts) i xs ys
     → ((k : ℕ) → has r.units k ≡ (has kept.units k && not (eqb k i))) → r.sum.0 ≡ kept.sum.0 - v
-    → Dropped (problem_of ws) us (entry starts) wanted kept r ys
-dropped_one ws l us starts xs ys i wanted v kept r d el le back without ev =
+    → Dropped (problem file) us (entry starts) wanted kept r ys
+dropped_one file us starts xs ys i wanted v kept r d el le back without ev =
     record {
       thins = record {
         bounds = subst (Bounds p us (has r.units) (entry starts) ys) (sym (ev ∙ ap (λ (x : ℕ). kept.sum.0 - x) el)) b;
@@ -159,39 +157,37 @@ dropped_one ws l us starts xs ys i wanted v kept r d el le back without ev =
     }
   where
     p : Problem
-    p = problem_of ws
+    p = problem file
 
-    f : Filed ws l
-    f = d.at.filed
+    f : Filed file.words.now file.layout
+    f = file.filed
 
     b : Bounds p us (has r.units) (entry starts) ys (kept.sum.0 - loss_of p us (entry starts) xs i)
     b =
-        bounds_dropped p us (has kept.units) (has r.units) (entry starts) xs ys i kept.sum.0 (fair ws f.passed) d.dual.costs d.dual.roots
+        bounds_dropped p us (has kept.units) (has r.units) (entry starts) xs ys i kept.sum.0 (fair file.words.now f.passed) d.dual.costs d.dual.roots
         (omega (arith, d.at.unit, f.units_are)) d.at.permits without back d.thins.bounds
 
 -- one of those kept
-pub may_drop : (ws : List ℕ) (l : Layout) (us starts xs : List ℕ) (i wanted : ℕ) (kept : BlameLeft) (one : Bool)
-    → MayDrop ws l us starts i wanted kept xs → one ≡ has kept.units i → one ≡ true → Dropping ws l us starts i wanted kept xs
-may_drop ws l us starts xs i wanted kept one d is so = d.dropping (sym is ∙ so)
+pub may_drop : (file : File) (us starts xs : List ℕ) (i wanted : ℕ) (kept : BlameLeft) (one : Bool)
+    → MayDrop file us starts i wanted kept xs → one ≡ has kept.units i → one ≡ true → Dropping file us starts i wanted kept xs
+may_drop file us starts xs i wanted kept one d is so = d.dropping (sym is ∙ so)
 
 -- ---- units dropped in turn
 
 -- from unit i on, of the units of b
-pub record Thinning (ws : List ℕ) (l : Layout) (us : List ℕ) (b : NumSet) (starts : List ℕ) (wanted i : ℕ) (kept : BlameLeft) (xs : List ℕ) : Type 0 where
-  pub filed : Filed ws l
-  pub dual : Dual (problem_of ws) us
-  pub permits : PermitsOf (problem_of ws) b (entry starts)
+pub record Thinning (file : File) (us : List ℕ) (b : NumSet) (starts : List ℕ) (wanted i : ℕ) (kept : BlameLeft) (xs : List ℕ) : Type 0 where
+  pub dual : Dual (problem file) us
+  pub permits : PermitsOf (problem file) b (entry starts)
   pub few : wanted ≤ MOST_WANTED
-  pub thins : ShrinksTo (problem_of ws) us (entry starts) wanted kept xs
+  pub thins : ShrinksTo (problem file) us (entry starts) wanted kept xs
   pub within : (n : ℕ) → has kept.units n ≡ true → b n ≡ true
-  pub places : i ≤ l.units
+  pub places : i ≤ file.layout.units
 
 -- none yet
-pub thinning_start : (ws : List ℕ) (l : Layout) (us : List ℕ) (node : Node) (wanted : ℕ) (xs : List ℕ) → Bounded ws l us node xs
+pub thinning_start : (file : File) (us : List ℕ) (node : Node) (wanted : ℕ) (xs : List ℕ) → Bounded file us node xs
     → wanted ≤ node.bound.0 → wanted ≤ MOST_WANTED
-    → Thinning ws l us (has node.placed) node.starts wanted l.units (record { units = node.placed; sum = node.bound }) xs
-thinning_start ws l us node wanted xs h le few = record {
-  filed = h.filed;
+    → Thinning file us (has node.placed) node.starts wanted file.layout.units (record { units = node.placed; sum = node.bound }) xs
+thinning_start file us node wanted xs h le few = record {
   dual = h.dual;
   permits = h.permits;
   few = few;
@@ -200,16 +196,15 @@ thinning_start ws l us node wanted xs h le few = record {
   places = omega arith;
 }
 
-module _ (ws : List ℕ) (l : Layout) (us : List ℕ) (b : NumSet) (starts : List ℕ) (wanted i j : ℕ) (kept : BlameLeft) (xs : List ℕ)
-    (h : Thinning ws l us b starts wanted i kept xs) (e : j ≡ i - 1) where
+module _ (file : File) (us : List ℕ) (b : NumSet) (starts : List ℕ) (wanted i j : ℕ) (kept : BlameLeft) (xs : List ℕ)
+    (h : Thinning file us b starts wanted i kept xs) (e : j ≡ i - 1) where
   -- the next unit may be dropped
-  pub thinning_drops : 0 < i → MayDrop ws l us starts j wanted kept xs
+  pub thinning_drops : 0 < i → MayDrop file us starts j wanted kept xs
   thinning_drops some = record {
-    unit = omega (arith, h.places, h.filed.units_most);
+    unit = omega (arith, h.places, file.filed.units_most);
     thins = h.thins;
     dropping = λ q. record {
       at = record {
-        filed = h.filed;
         unit = omega (arith, h.places);
         permits = h.permits.each j (h.within j q);
         long = h.thins.bounds.values.long;
@@ -221,9 +216,8 @@ module _ (ws : List ℕ) (l : Layout) (us : List ℕ) (b : NumSet) (starts : Lis
   }
 
   -- it was, or not
-  pub thinning_next : (r : BlameLeft) (ys : List ℕ) → Dropped (problem_of ws) us (entry starts) wanted kept r ys → Thinning ws l us b starts wanted j r ys
+  pub thinning_next : (r : BlameLeft) (ys : List ℕ) → Dropped (problem file) us (entry starts) wanted kept r ys → Thinning file us b starts wanted j r ys
   thinning_next r ys t = record {
-    filed = h.filed;
     dual = h.dual;
     permits = h.permits;
     few = h.few;
@@ -233,9 +227,9 @@ module _ (ws : List ℕ) (l : Layout) (us : List ℕ) (b : NumSet) (starts : Lis
   }
 
 -- all were tried
-pub thinning_ended : (ws : List ℕ) (l : Layout) (us : List ℕ) (b : NumSet) (starts : List ℕ) (wanted i : ℕ) (kept : BlameLeft) (xs : List ℕ)
-    → Thinning ws l us b starts wanted i kept xs → Shrunk (problem_of ws) us b (entry starts) wanted kept
-thinning_ended ws l us b starts wanted i kept xs h = record { xs = xs; thins = h.thins; within = h.within }
+pub thinning_ended : (file : File) (us : List ℕ) (b : NumSet) (starts : List ℕ) (wanted i : ℕ) (kept : BlameLeft) (xs : List ℕ)
+    → Thinning file us b starts wanted i kept xs → Shrunk (problem file) us b (entry starts) wanted kept
+thinning_ended file us b starts wanted i kept xs h = record { xs = xs; thins = h.thins; within = h.within }
 
 -- ---- who is to blame
 
@@ -249,12 +243,12 @@ blamed_all p us node limit b wanted e less all = record {
 }
 
 -- it comes to the limit: those that keep it there
-pub blamed_some : (ws : List ℕ) (l : Layout) (us : List ℕ) (node : Node) (xs : List ℕ) (limit wanted : ℕ) (kept : BlameLeft) → Bounded ws l us node xs
+pub blamed_some : (file : File) (us : List ℕ) (node : Node) (xs : List ℕ) (limit wanted : ℕ) (kept : BlameLeft) → Bounded file us node xs
     → wanted ≡ limit + total_in us → wanted ≤ node.bound.0
-    → Shrunk (problem_of ws) us (has node.placed) (entry node.starts) wanted kept → Blamed (problem_of ws) us node limit kept.units
-blamed_some ws l us node xs limit wanted kept h e le t = record {
+    → Shrunk (problem file) us (has node.placed) (entry node.starts) wanted kept → Blamed (problem file) us node limit kept.units
+blamed_some file us node xs limit wanted kept h e le t = record {
   within = t.within;
-  closed = λ _. bounds_closed (problem_of ws) us (has kept.units) (entry node.starts) t.xs kept.sum.0 limit (fair ws h.filed.passed)
+  closed = λ _. bounds_closed (problem file) us (has kept.units) (entry node.starts) t.xs kept.sum.0 limit (fair file.words.now file.filed.passed)
       h.dual t.thins.bounds (omega (arith, t.thins.reaches));
   all = λ less. absurd (omega arith);
 }

@@ -14,14 +14,14 @@ use Rattle.sums.specs.Sum.{sum_to, added, transposed, shifted}
 use Rattle.sums.specs.NumSet.{NumSet, only_in, parts}
 use Rattle.sums.proofs.SumLaws.{sum_same, sum_added}
 use Rattle.sums.proofs.LoopLaws.{sum_next, sum_ended}
-use Rattle.model.specs.declared.Layout.{Layout}
 use Rattle.model.specs.Problem.{Problem}
 use Rattle.model.specs.Domain.{permitted}
 use Rattle.model.specs.Schedule.{in_span}
 use Rattle.model.specs.Words.{problem_of}
 use Rattle.model.proofs.DomainLaws.{permits_ends}
 use Rattle.model.proofs.FileLaws.{fair}
-use Rattle.instance.specs.Filed.{Filed}
+use Rattle.instance.specs.declared.file.File.{File}
+use Rattle.instance.specs.File.{problem}
 use Rattle.overhaul.specs.Range.{StartRange}
 use Rattle.overhaul.specs.Off.{off_weeks}
 use Rattle.overhaul.proofs.StartLaws.{range_in, range_at}
@@ -52,15 +52,15 @@ unfolding shifted transposed
 inside_next ws i a k s v r = sum_next (shifted a (transposed (problem_of ws).off i)) k s v r
 
 -- all its weeks
-pub span_ended : (ws : List ℕ) (l : Layout) (g : ℕ → ℕ) (i start k d r : ℕ) → StartAt ws l i start → d ≡ (problem_of ws).duration i → k ≤ d → d ≤ k → r ≡ sum_to k (shifted (start - 1) g) → r ≡ span_sum (problem_of ws) i start g
+pub span_ended : (file : File) (g : ℕ → ℕ) (i start k d r : ℕ) → StartAt file i start → d ≡ (problem file).duration i → k ≤ d → d ≤ k → r ≡ sum_to k (shifted (start - 1) g) → r ≡ span_sum (problem file) i start g
 unfolding span_sum
-span_ended ws l g i start k d r at is m n t =
-    let p = problem_of ws in
-    let f = at.filed in
+span_ended file g i start k d r at is m n t =
+    let p = problem file in
+    let f = file.filed in
     let h = at.unit in
     let e = at.permits in
-    let s : start ≡ suc (start - 1) = omega (arith, start_some ws l i start f h e) in
-    let b : start - 1 + p.duration i ≤ p.weeks = omega (arith, ends_within ws l i start f h e d is, f.weeks_are) in
+    let s : start ≡ suc (start - 1) = omega (arith, start_some file i start h e) in
+    let b : start - 1 + p.duration i ≤ p.weeks = omega (arith, ends_within file i start h e d is, f.weeks_are) in
     sum_ended (shifted (start - 1) g) k d r t m n
     ∙ ap (λ (z : ℕ). sum_to z (shifted (start - 1) g)) is
     ∙ sym (span_sum_lem (start - 1) (p.duration i) g p.weeks b)
@@ -86,16 +86,16 @@ priced_shifted p u i s =
     parts_shifted p.weeks (in_span s (p.duration i)) (added (transposed p.maint i) (transposed u i)) (transposed p.off i)
 
 -- as the code adds and takes off
-pub priced_is : (ws : List ℕ) (l : Layout) (us : List ℕ) (i s c o a q r : ℕ) → StartAt ws l i s → Priced (problem_of ws) us
-    → c ≡ span_sum (problem_of ws) i s (priced_week ws us i) → o ≡ off_in us i → a ≡ c + o → q ≡ span_sum (problem_of ws) i s (transposed (problem_of ws).off i) → r ≡ a - q → r ≡ priced (problem_of ws) (price_in us) i s
-priced_is ws l us i s c o a q r at priced ec eo ea eq er =
-    omega (arith, priced_shifted (problem_of ws) (price_in us) i s, priced.offs.each i (omega (arith, at.unit, at.filed.units_are)))
+pub priced_is : (file : File) (us : List ℕ) (i s c o a q r : ℕ) → StartAt file i s → Priced (problem file) us
+    → c ≡ span_sum (problem file) i s (priced_week file.words.now us i) → o ≡ off_in us i → a ≡ c + o → q ≡ span_sum (problem file) i s (transposed (problem file).off i) → r ≡ a - q → r ≡ priced (problem file) (price_in us) i s
+priced_is file us i s c o a q r at priced ec eo ea eq er =
+    omega (arith, priced_shifted (problem file) (price_in us) i s, priced.offs.each i (omega (arith, at.unit, file.filed.units_are)))
 
 -- no more than the weeks of the overhaul and OFF in all of them
-pub priced_small : (ws : List ℕ) (l : Layout) (us : List ℕ) (i s c o a q r : ℕ) → StartAt ws l i s → Priced (problem_of ws) us → c ≤ MOST_SPAN
+pub priced_small : (file : File) (us : List ℕ) (i s c o a q r : ℕ) → StartAt file i s → Priced (problem file) us → c ≤ MOST_SPAN
     → o ≡ off_in us i → a ≡ c + o → r ≡ a - q → r ≤ MOST_OVERHAUL
-priced_small ws l us i s c o a q r at priced few eo ea er =
-    let unit : i < (problem_of ws).units = omega (arith, at.unit, at.filed.units_are) in
+priced_small file us i s c o a q r at priced few eo ea er =
+    let unit : i < (problem file).units = omega (arith, at.unit, file.filed.units_are) in
     omega (arith, priced.offs.small i unit)
 
 -- ---- the least of a unit's starts
@@ -153,8 +153,8 @@ pub least_most : (p : Problem) (u : ℕ → ℕ → ℕ) (i s v : ℕ) → Least
 least_most p u i s v h = h.small
 
 -- the next start of a unit
-pub least_at : (ws : List ℕ) (l : Layout) (us : List ℕ) (i a b s : ℕ) → UnitAt ws l us i → StartsTo (problem_of ws) i a b s → s < b → StartAt ws l i s
-least_at ws l us i a b s at h more = record { filed = at.filed; unit = at.unit; permits = starts_permit (problem_of ws) i a b s h more }
+pub least_at : (file : File) (us : List ℕ) (i a b s : ℕ) → UnitAt file us i → StartsTo (problem file) i a b s → s < b → StartAt file i s
+least_at file us i a b s at h more = record { unit = at.unit; permits = starts_permit (problem file) i a b s h more }
 
 -- it costs no less than the least
 pub least_above : (p : Problem) (u : ℕ → ℕ → ℕ) (i s c v : ℕ) → LeastFrom p u i v → permitted p i s ≡ true → c ≡ priced p u i s → v ≤ c
@@ -168,32 +168,30 @@ least_rest p u i s c v h e is = omega (arith, h.below s e)
 -- ---- a table of all units' costs
 
 -- nothing yet
-pub costs_start : (ws : List ℕ) (l : Layout) (us xs : List ℕ) → Filed ws l → Priced (problem_of ws) us → xs ≡ us → CostsMade ws l us 0 xs
-costs_start ws l us xs f priced same = record {
-  filed = f;
+pub costs_start : (file : File) (us xs : List ℕ) → Priced (problem file) us → xs ≡ us → CostsMade file us 0 xs
+costs_start file us xs priced same = record {
   priced = priced;
   begins = record { long = ap (length {A = ℕ}) same ∙ priced.long; same = λ k l. ap (λ (ys : List ℕ). get_or ys k 0) same };
   costs = record { exact = λ i s l. absurd (omega arith); small = λ i l. absurd (omega arith) };
 }
 
-module _ (ws : List ℕ) (l : Layout) (us : List ℕ) (i : ℕ) (f : Filed ws l) (unit : i < l.units) where
+module _ (file : File) (us : List ℕ) (i : ℕ) (unit : i < file.layout.units) where
   abbrev p : Problem
-  p = problem_of ws
+  p = problem file
 
   -- there are 16 units at most
   in_table : i < 16
-  in_table = omega (arith, unit, f.units_most)
+  in_table = omega (arith, unit, file.filed.units_most)
 
   -- a permitted start is one of 52
-  start_few : (k q : ℕ) → k < l.units → permitted p k q ≡ true → q ≤ 52
+  start_few : (k q : ℕ) → k < file.layout.units → permitted p k q ≡ true → q ≤ 52
   start_few k q m e =
-      omega (arith, permits_ends p k q e, (fair ws f.passed).some_weeks k (omega (arith, f.units_are)), f.weeks_are, f.weeks_most)
+      omega (arith, permits_ends p k q e, (fair file.words.now file.filed.passed).some_weeks k (omega (arith, file.filed.units_are)), file.filed.weeks_are, file.filed.weeks_most)
 
   -- what is written from unit i's place on leaves the units below it
-  keeps : (table : List ℕ) (place v : ℕ) → START_COSTS + i * 64 ≤ place → CostsMade ws l us i table → CostsMade ws l us i (set table place v)
+  keeps : (table : List ℕ) (place v : ℕ) → START_COSTS + i * 64 ≤ place → CostsMade file us i table → CostsMade file us i (set table place v)
   unfolding least_in excess_in
   keeps table place v low made = record {
-    filed = made.filed;
     priced = made.priced;
     begins = begins_put START_COSTS us table place v made.begins (omega arith);
     costs = record {
@@ -210,43 +208,40 @@ module _ (ws : List ℕ) (l : Layout) (us : List ℕ) (i : ℕ) (f : Filed ws l)
       other n m = get_or-set_other table place n v 0 (λ z. omega arith)
 
 -- its least is written
-pub put_least : (ws : List ℕ) (l : Layout) (us table : List ℕ) (i a b least : ℕ) → CostsMade ws l us i table → i < l.units
-    → StartRange (problem_of ws) i a b → LeastFrom (problem_of ws) (price_in us) i least → least ≤ MOST_OVERHAUL
-    → CostsTo ws l us i least a (set table (START_COSTS + i * 64) least)
+pub put_least : (file : File) (us table : List ℕ) (i a b least : ℕ) → CostsMade file us i table → i < file.layout.units
+    → StartRange (problem file) i a b → LeastFrom (problem file) (price_in us) i least → least ≤ MOST_OVERHAUL
+    → CostsTo file us i least a (set table (START_COSTS + i * 64) least)
 unfolding least_in
-put_least ws l us table i a b least made unit g under small =
-    let f = made.filed in
+put_least file us table i a b least made unit g under small =
+    let f = file.filed in
     record {
-      made = keeps ws l us i f unit table (START_COSTS + i * 64) least (omega arith) made;
+      made = keeps file us i unit table (START_COSTS + i * 64) least (omega arith) made;
       unit = unit;
-      low = get_or-set_same table (START_COSTS + i * 64) least 0 (omega (arith, in_table ws l us i f unit, made.begins.long));
+      low = get_or-set_same table (START_COSTS + i * 64) least 0 (omega (arith, in_table file us i unit, made.begins.long));
       few = small;
       under = under;
-      exact = λ q m e. absurd (omega (arith, (range_at (problem_of ws) i a b q g e).0));
+      exact = λ q m e. absurd (omega (arith, (range_at (problem file) i a b q g e).0));
     }
 
-module _ (ws : List ℕ) (l : Layout) (us : List ℕ) (i least s : ℕ) (table : List ℕ) (t : CostsTo ws l us i least s table) where
-  f : Filed ws l
-  f = t.made.filed
-
+module _ (file : File) (us : List ℕ) (i least s : ℕ) (table : List ℕ) (t : CostsTo file us i least s table) where
   -- the next start
-  pub put_at_lem : permitted (problem_of ws) i s ≡ true → StartAt ws l i s
-  put_at_lem e = record { filed = f; unit = t.unit; permits = e }
+  pub put_at_lem : permitted (problem file) i s ≡ true → StartAt file i s
+  put_at_lem e = record { unit = t.unit; permits = e }
 
   -- its place lies in the table
-  put_within : permitted (problem_of ws) i s ≡ true → START_COSTS + i * 64 + s < TABLES
-  put_within e = omega (arith, start_few ws l us i f t.unit i s t.unit e, in_table ws l us i f t.unit)
+  put_within : permitted (problem file) i s ≡ true → START_COSTS + i * 64 + s < TABLES
+  put_within e = omega (arith, start_few file us i t.unit i s t.unit e, in_table file us i t.unit)
 
   -- the least is one
-  pub put_under : LeastFrom (problem_of ws) (price_in us) i least
+  pub put_under : LeastFrom (problem file) (price_in us) i least
   put_under = t.under
 
   -- what it costs more is written
-  pub put_next : (v : ℕ) → permitted (problem_of ws) i s ≡ true → least + v ≡ priced (problem_of ws) (price_in us) i s
-      → CostsTo ws l us i least (s + 1) (set table (START_COSTS + i * 64 + s) v)
+  pub put_next : (v : ℕ) → permitted (problem file) i s ≡ true → least + v ≡ priced (problem file) (price_in us) i s
+      → CostsTo file us i least (s + 1) (set table (START_COSTS + i * 64 + s) v)
   unfolding least_in excess_in
   put_next v is e = record {
-    made = keeps ws l us i f t.unit table (START_COSTS + i * 64 + s) v (omega arith) t.made;
+    made = keeps file us i t.unit table (START_COSTS + i * 64 + s) v (omega arith) t.made;
     unit = t.unit;
     low = get_or-set_other table (START_COSTS + i * 64 + s) (START_COSTS + i * 64) v 0 (λ z. omega (arith, start_one)) ∙ t.low;
     few = t.few;
@@ -255,32 +250,31 @@ module _ (ws : List ℕ) (l : Layout) (us : List ℕ) (i least s : ℕ) (table :
   }
     where
       start_one : 1 ≤ s
-      start_one = start_some ws l i s f t.unit is
+      start_one = start_some file i s t.unit is
 
       here : get_or (set table (START_COSTS + i * 64 + s) v) (START_COSTS + i * 64 + s) 0 ≡ v
       here = get_or-set_same table (START_COSTS + i * 64 + s) v 0 (omega (arith, t.made.begins.long, put_within is))
 
-      by : (q : ℕ) → q < s + 1 → permitted (problem_of ws) i q ≡ true → Dec (q ≡ s)
-          → least + get_or (set table (START_COSTS + i * 64 + s) v) (START_COSTS + i * 64 + q) 0 ≡ priced (problem_of ws) (price_in us) i q
+      by : (q : ℕ) → q < s + 1 → permitted (problem file) i q ≡ true → Dec (q ≡ s)
+          → least + get_or (set table (START_COSTS + i * 64 + s) v) (START_COSTS + i * 64 + q) 0 ≡ priced (problem file) (price_in us) i q
       by q k g (yes z) = rw z (omega (arith, here))
       by q k g (no z) =
           let o = get_or-set_other table (START_COSTS + i * 64 + s) (START_COSTS + i * 64 + q) v 0 (λ w. z (omega arith)) in
           omega (arith, o, t.exact q (omega arith) g)
 
   -- all its starts
-  pub put_ended : (a b : ℕ) → StartsTo (problem_of ws) i a b s → b ≤ s → CostsMade ws l us (i + 1) table
+  pub put_ended : (a b : ℕ) → StartsTo (problem file) i a b s → b ≤ s → CostsMade file us (i + 1) table
   put_ended a b g m = record {
-    filed = f;
     priced = t.made.priced;
     begins = t.made.begins;
     costs = record { exact = λ k q n e. by k q n e (ℕ_discrete k i); small = λ k n. least_few k n (ℕ_discrete k i) };
   }
     where
-      by : (k q : ℕ) → k < i + 1 → permitted (problem_of ws) k q ≡ true → Dec (k ≡ i)
-          → least_in table k + excess_in table k q ≡ priced (problem_of ws) (price_in us) k q
+      by : (k q : ℕ) → k < i + 1 → permitted (problem file) k q ≡ true → Dec (k ≡ i)
+          → least_in table k + excess_in table k q ≡ priced (problem file) (price_in us) k q
       by k q n e (yes z) =
-          let own : permitted (problem_of ws) i q ≡ true = subst (λ (x : ℕ). permitted (problem_of ws) x q ≡ true) z e in
-          rw z (omega (arith, t.low, t.exact q (starts_ended (problem_of ws) i a b s g m q own) own))
+          let own : permitted (problem file) i q ≡ true = subst (λ (x : ℕ). permitted (problem file) x q ≡ true) z e in
+          rw z (omega (arith, t.low, t.exact q (starts_ended (problem file) i a b s g m q own) own))
       by k q n e (no z) = t.made.costs.exact k q (omega arith) e
 
       least_few : (k : ℕ) → k < i + 1 → Dec (k ≡ i) → least_in table k ≤ MOST_OVERHAUL
@@ -288,5 +282,5 @@ module _ (ws : List ℕ) (l : Layout) (us : List ℕ) (i least s : ℕ) (table :
       least_few k n (no z) = t.made.costs.small k (omega arith)
 
 -- all units
-pub costs_ended : (ws : List ℕ) (l : Layout) (us xs : List ℕ) (i n : ℕ) → CostsMade ws l us i xs → i ≤ n → n ≤ i → CostsMade ws l us n xs
-costs_ended ws l us xs i n made a b = let e : i ≡ n = omega arith in rw e at made
+pub costs_ended : (file : File) (us xs : List ℕ) (i n : ℕ) → CostsMade file us i xs → i ≤ n → n ≤ i → CostsMade file us n xs
+costs_ended file us xs i n made a b = let e : i ≡ n = omega arith in rw e at made

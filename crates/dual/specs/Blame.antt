@@ -4,13 +4,12 @@ use Rattle.std.specs.Prelude.{ℕ, ◌+◌, ◌-◌, ◌≤◌, ◌<◌, ◌≡�
 use Rattle.sums.specs.Sum.{sum_to, shifted}
 use Rattle.sums.specs.NumSet.{NumSet, has, with}
 use Rattle.sums.specs.Table.{entry}
-use Rattle.model.specs.declared.Layout.{Layout}
 use Rattle.model.specs.Problem.{Problem}
 use Rattle.model.specs.Domain.{permitted}
 use Rattle.model.specs.Schedule.{out_in}
-use Rattle.model.specs.Words.{problem_of}
+use Rattle.instance.specs.declared.file.File.{File}
+use Rattle.instance.specs.File.{problem}
 use Rattle.instance.specs.declared.Euro.{Euro}
-use Rattle.instance.specs.Filed.{Filed}
 use Rattle.blame.specs.Closed.{Closed}
 use Rattle.tables.specs.Tables.{excess_in, root_in, total_in}
 use Rattle.dual.specs.declared.BlameLeft.{BlameLeft}
@@ -43,11 +42,10 @@ pub record PermitsOf (p : Problem) (b : NumSet) (starts : ℕ → ℕ) : Type 0 
   pub each : (i : ℕ) → b i ≡ true → permitted p i (starts i) ≡ true
 
 -- a node of a walk, with a lower bound of the schedules with the starts of the units placed
-pub record Bounded (ws : List ℕ) (l : Layout) (us : List ℕ) (node : Node) (xs : List ℕ) : Type 0 where
-  pub filed : Filed ws l
-  pub dual : Dual (problem_of ws) us
-  pub permits : PermitsOf (problem_of ws) (has node.placed) (entry node.starts)
-  pub bounds : Bounds (problem_of ws) us (has node.placed) (entry node.starts) xs node.bound.0
+pub record Bounded (file : File) (us : List ℕ) (node : Node) (xs : List ℕ) : Type 0 where
+  pub dual : Dual (problem file) us
+  pub permits : PermitsOf (problem file) (has node.placed) (entry node.starts)
+  pub bounds : Bounds (problem file) us (has node.placed) (entry node.starts) xs node.bound.0
 
 -- the units to blame, of those placed: where the bound comes to the limit and the total, their starts are a dead end; else all of them
 pub record Blamed (p : Problem) (us : List ℕ) (node : Node) (limit b : ℕ) : Type 0 where
@@ -97,21 +95,20 @@ pub record Shrunk (p : Problem) (us : List ℕ) (b : NumSet) (starts : ℕ → �
   pub within : (i : ℕ) → has kept.units i ≡ true → b i ≡ true
 
 -- unit i at its permitted start, with the weeks' values
-pub record OverhaulAt (ws : List ℕ) (l : Layout) (starts : List ℕ) (i : ℕ) (xs : List ℕ) : Type 0 where
-  pub filed : Filed ws l
-  pub unit : i < l.units
-  pub permits : permitted (problem_of ws) i (entry starts i) ≡ true
+pub record OverhaulAt (file : File) (starts : List ℕ) (i : ℕ) (xs : List ℕ) : Type 0 where
+  pub unit : i < file.layout.units
+  pub permits : permitted (problem file) i (entry starts i) ≡ true
   pub long : length xs ≡ 52
 
 -- it may be dropped from the units that keep the bound where it is wanted
-pub record Dropping (ws : List ℕ) (l : Layout) (us starts : List ℕ) (i wanted : ℕ) (kept : BlameLeft) (xs : List ℕ) : Type 0 where
-  pub at : OverhaulAt ws l starts i xs
-  pub dual : Dual (problem_of ws) us
+pub record Dropping (file : File) (us starts : List ℕ) (i wanted : ℕ) (kept : BlameLeft) (xs : List ℕ) : Type 0 where
+  pub at : OverhaulAt file starts i xs
+  pub dual : Dual (problem file) us
   pub few : wanted ≤ MOST_WANTED
-  pub thins : ShrinksTo (problem_of ws) us (entry starts) wanted kept xs
+  pub thins : ShrinksTo (problem file) us (entry starts) wanted kept xs
 
 -- the same where it is one of them
-pub record MayDrop (ws : List ℕ) (l : Layout) (us starts : List ℕ) (i wanted : ℕ) (kept : BlameLeft) (xs : List ℕ) : Type 0 where
+pub record MayDrop (file : File) (us starts : List ℕ) (i wanted : ℕ) (kept : BlameLeft) (xs : List ℕ) : Type 0 where
   pub unit : i < 32
-  pub thins : ShrinksTo (problem_of ws) us (entry starts) wanted kept xs
-  pub dropping : has kept.units i ≡ true → Dropping ws l us starts i wanted kept xs
+  pub thins : ShrinksTo (problem file) us (entry starts) wanted kept xs
+  pub dropping : has kept.units i ≡ true → Dropping file us starts i wanted kept xs

@@ -12,12 +12,12 @@ use Rattle.sums.specs.Sum.{sum_to}
 use Rattle.sums.specs.NumSet.{NumSet, only_in, complement, has}
 use Rattle.sums.specs.Table.{entry}
 use Rattle.sums.proofs.LogicLaws.{true_false, not_so}
-use Rattle.model.specs.declared.Layout.{Layout}
 use Rattle.model.specs.Problem.{Problem}
 use Rattle.model.specs.Rules.{output, headcount}
 use Rattle.model.specs.Pairs.{apart}
 use Rattle.model.specs.Plan.{Compatible}
-use Rattle.model.specs.Words.{problem_of}
+use Rattle.instance.specs.declared.file.File.{File}
+use Rattle.instance.specs.File.{problem}
 use Rattle.tables.specs.Tables.{MOST_PRICE, MOST_WEEK_PRICES, price_in, partners_in}
 use Rattle.farkas.specs.declared.week.FreeNode.{FreeNode}
 use Rattle.farkas.specs.declared.week.FreeWeek.{FreeWeek}
@@ -40,18 +40,18 @@ saves_least xs k crews all top r e f h = record { either = by (dec_lt all (crews
     by (yes l) = inl (omega (arith, e, h, l))
     by (no l) = inr (omega (arith, h, l) ∙ ap (λ (n : ℕ). crews * n) f)
 
-module _ (ws : List ℕ) (l : Layout) (us xs : List ℕ) (k : ℕ) (y : FreeNode) where
+module _ (file : File) (us xs : List ℕ) (k : ℕ) (y : FreeNode) where
   -- the highest price is in its range
-  pub top_small : NodeDue ws l us xs k y → entry xs (TOP + k) ≤ MOST_PRICE
+  pub top_small : NodeDue file us xs k y → entry xs (TOP + k) ≤ MOST_PRICE
   top_small due = due.sums.low k due.units
 
   -- all prices but those that can be saved
-  pub bound_floor : (all saved s r : ℕ) → NodeDue ws l us xs k y → all ≡ entry xs k → Savable xs k y.crews saved → s ≡ y.score.0 + all → r ≡ s - saved
-      → NodeFloor (problem_of ws) us k y r
+  pub bound_floor : (all saved s r : ℕ) → NodeDue file us xs k y → all ≡ entry xs k → Savable xs k y.crews saved → s ≡ y.score.0 + all → r ≡ s - saved
+      → NodeFloor (problem file) us k y r
   bound_floor all saved s r due is savable total e = record { floor = by savable.either }
     where
       p : Problem
-      p = problem_of ws
+      p = problem file
 
       sum : entry xs k ≡ sum_to k (price_in us y.week)
       sum = due.sums.prices k due.units
@@ -65,50 +65,50 @@ module _ (ws : List ℕ) (l : Layout) (us xs : List ℕ) (k : ℕ) (y : FreeNode
           floor_crews p (price_in us) y.week k y.need.0 y.crews y.score.0 (has y.bar) (never_in xs) due.never r (entry xs (TOP + k))
           (λ i h. due.sums.top k i due.units h) (omega (arith, b, is, sum))
 
-  pub bound_small : (all saved s r : ℕ) → NodeDue ws l us xs k y → all ≡ entry xs k → s ≡ y.score.0 + all → r ≡ s - saved → r ≤ MOST_WEEK_PRICES
+  pub bound_small : (all saved s r : ℕ) → NodeDue file us xs k y → all ≡ entry xs k → s ≡ y.score.0 + all → r ≡ s - saved → r ≤ MOST_WEEK_PRICES
   bound_small all saved s r due is total e = let h = due.small in omega arith
 
 -- ---- a node that is done with
 
-module _ (ws : List ℕ) (l : Layout) (us xs : List ℕ) (k : ℕ) (y : FreeNode) (low : FreeWeek) where
+module _ (file : File) (us xs : List ℕ) (k : ℕ) (y : FreeNode) (low : FreeWeek) where
   -- the capacities left fall short
-  pub seen_short : (caps : ℕ) → NodeDue ws l us xs k y → caps ≡ entry xs (CAPS + k) → caps < y.need.0 → NodeDone (problem_of ws) us k y low low
+  pub seen_short : (caps : ℕ) → NodeDue file us xs k y → caps ≡ entry xs (CAPS + k) → caps < y.need.0 → NodeDone (problem file) us k y low low
   seen_short caps due is short = record {
-    floor = record { floor = floor_short (problem_of ws) (price_in us) y.week (omega (arith, due.sums.caps k due.units)) };
+    floor = record { floor = floor_short (problem file) (price_in us) y.week (omega (arith, due.sums.caps k due.units)) };
     less = omega arith;
   }
 
 -- ---- a unit stays or is out
 
 -- with unit i out its partners are barred too
-pub leave_made : (ws : List ℕ) (l : Layout) (us : List ℕ) (i : ℕ) (y : FreeNode) (set bar out : ℕ) → FreeAt ws l us y.week → i < l.units
+pub leave_made : (file : File) (us : List ℕ) (i : ℕ) (y : FreeNode) (set bar out : ℕ) → FreeAt file us y.week → i < file.layout.units
     → 0 < y.crews → set ≡ partners_in us i → ((k : ℕ) → has bar k ≡ (has y.bar k || has set k))
-    → Leaves (problem_of ws) i y (record { week = y.week; need = y.need; crews = y.crews - 1; bar = bar; out = out; score = y.score })
+    → Leaves (problem file) i y (record { week = y.week; need = y.need; crews = y.crews - 1; bar = bar; out = out; score = y.score })
 unfolding barred
-leave_made ws l us i y set bar out at unit crew is joins = record {
+leave_made file us i y set bar out at unit crew is joins = record {
   week = refl;
   need = refl;
   crews = omega arith;
-  bar = λ j. joins j ∙ ap (λ (b : Bool). has y.bar j || b) (rw is ((at.priced.partners.each i (omega (arith, at.filed.units_are))).sets j));
+  bar = λ j. joins j ∙ ap (λ (b : Bool). has y.bar j || b) (rw is ((at.priced.partners.each i (omega (arith, file.filed.units_are))).sets j));
   score = refl;
 }
 
 -- the same facts, open and closed
-pub node_open : (ws : List ℕ) (l : Layout) (us xs : List ℕ) (k : ℕ) (y : FreeNode) → NodeAt ws l us xs k y → NodeDue ws l us xs k y
+pub node_open : (file : File) (us xs : List ℕ) (k : ℕ) (y : FreeNode) → NodeAt file us xs k y → NodeDue file us xs k y
 unfolding NodeAt
-node_open ws l us xs k y at = at
+node_open file us xs k y at = at
 
-module _ (ws : List ℕ) (l : Layout) (us xs : List ℕ) (i k : ℕ) (y : FreeNode) where
+module _ (file : File) (us xs : List ℕ) (i k : ℕ) (y : FreeNode) where
   -- the highest unit of a node
-  pub try_due : (low found : FreeWeek) → NodeAt ws l us xs k y → NodeOpen k y low found → i ≡ k - 1
-      → TryAt ws l us xs i y
+  pub try_due : (low found : FreeWeek) → NodeAt file us xs k y → NodeOpen k y low found → i ≡ k - 1
+      → TryAt file us xs i y
   unfolding NodeAt
   try_due low found at seen is =
       let some = seen.more in
       record {
         at = at.at;
         unit = let h = at.units in omega arith;
-        node = subst (λ (n : ℕ). NodeDue ws l us xs n y) (top some) at;
+        node = subst (λ (n : ℕ). NodeDue file us xs n y) (top some) at;
         crew = seen.crew;
       }
     where
@@ -124,9 +124,9 @@ module _ (ws : List ℕ) (l : Layout) (us xs : List ℕ) (i k : ℕ) (y : FreeNo
 
 -- ---- the children of a node
 
-module _ (ws : List ℕ) (l : Layout) (us xs : List ℕ) (i : ℕ) (y z : FreeNode) where
+module _ (file : File) (us xs : List ℕ) (i : ℕ) (y z : FreeNode) where
   -- the prices of the units below i, and of unit i
-  prices_next : TryAt ws l us xs i y → entry xs (suc i) ≡ entry xs i + price_in us y.week i
+  prices_next : TryAt file us xs i y → entry xs (suc i) ≡ entry xs i + price_in us y.week i
   unfolding NodeAt sum_to
   prices_next at =
       let due = at.node in
@@ -134,23 +134,23 @@ module _ (ws : List ℕ) (l : Layout) (us xs : List ℕ) (i : ℕ) (y z : FreeNo
       due.sums.prices (suc i) (omega arith) ∙ ap (λ (n : ℕ). n + price_in us y.week i) (sym (due.sums.prices i (omega arith)))
 
   -- unit i is out: what walking on asks
-  pub node_leaves : TryAt ws l us xs i y → Leaves (problem_of ws) i y z → NodeAt ws l us xs i z
+  pub node_leaves : TryAt file us xs i y → Leaves (problem file) i y z → NodeAt file us xs i z
   unfolding NodeAt barred
   node_leaves at h = record {
     at = rw h.week at.at;
     units = let u = at.unit in omega arith;
     sums = rw h.week at.node.sums;
-    never = λ j n. h.bar j ∙ ap (λ (b : Bool). b || apart (problem_of ws) i j) (at.node.never j n);
+    never = λ j n. h.bar j ∙ ap (λ (b : Bool). b || apart (problem file) i j) (at.node.never j n);
     few = let f = at.node.few in omega (arith, h.crews);
     small = let s = at.node.small in omega (arith, h.score, prices_next at);
   }
 
   -- unit i stays
-  pub node_stays : (k : ℕ) (low found : FreeWeek) → NodeAt ws l us xs k y → NodeOpen k y low found → i ≡ k - 1
-      → Stays (problem_of ws) us i y z → NodeAt ws l us xs i z
+  pub node_stays : (k : ℕ) (low found : FreeWeek) → NodeAt file us xs k y → NodeOpen k y low found → i ≡ k - 1
+      → Stays (problem file) us i y z → NodeAt file us xs i z
   unfolding NodeAt
   node_stays k low found node seen is h =
-      let at = try_due ws l us xs i k y low found node seen is in
+      let at = try_due file us xs i k y low found node seen is in
       let u = at.unit in
       let s = at.node.small in
       record {
@@ -163,11 +163,11 @@ module _ (ws : List ℕ) (l : Layout) (us xs : List ℕ) (i : ℕ) (y z : FreeNo
       }
 
 -- what staying asks
-pub stay_due : (ws : List ℕ) (l : Layout) (us xs : List ℕ) (i k : ℕ) (y : FreeNode) (low found : FreeWeek) → NodeAt ws l us xs k y
-    → NodeOpen k y low found → i ≡ k - 1 → StayDue ws l us i y
+pub stay_due : (file : File) (us xs : List ℕ) (i k : ℕ) (y : FreeNode) (low found : FreeWeek) → NodeAt file us xs k y
+    → NodeOpen k y low found → i ≡ k - 1 → StayDue file us i y
 unfolding NodeAt
-stay_due ws l us xs i k y low found node seen is =
-    let at = try_due ws l us xs i k y low found node seen is in
+stay_due file us xs i k y low found node seen is =
+    let at = try_due file us xs i k y low found node seen is in
     let s = at.node.small in
     record { at = at.at; unit = at.unit; small = omega arith }
 
@@ -227,9 +227,9 @@ module _ (p : Problem) (us : List ℕ) (i : ℕ) (y : FreeNode) where
 
 -- ---- a whole week
 
-module _ (ws : List ℕ) (l : Layout) (us xs : List ℕ) (t : ℕ) (y : FreeNode) where
+module _ (file : File) (us xs : List ℕ) (t : ℕ) (y : FreeNode) where
   -- the root is a node of all units
-  pub root_due : SumsDue ws l us t xs l.units → AtRoot (problem_of ws) t xs y → NodeAt ws l us xs l.units y
+  pub root_due : SumsDue file us t xs file.layout.units → AtRoot (problem file) t xs y → NodeAt file us xs file.layout.units y
   unfolding NodeAt never_in
   root_due due root = record {
     at = rw root.week due.at;
@@ -237,24 +237,24 @@ module _ (ws : List ℕ) (l : Layout) (us xs : List ℕ) (t : ℕ) (y : FreeNode
     sums = rw root.week due.sums;
     never = λ i e. rw root.bar e;
     few = root.few;
-    small = let m = due.at.filed.units_most in omega (arith, root.score, due.sums.few l.units (omega arith));
+    small = let m = file.filed.units_most in omega (arith, root.score, due.sums.few file.layout.units (omega arith));
   }
 
   -- what it comes to is what the week does
-  pub week_free : (low found : FreeWeek) → SumsDue ws l us t xs l.units → AtRoot (problem_of ws) t xs y → NodeDone (problem_of ws) us l.units y low found
-      → WeekFree (problem_of ws) (price_in us) t found.value.0
+  pub week_free : (low found : FreeWeek) → SumsDue file us t xs file.layout.units → AtRoot (problem file) t xs y → NodeDone (problem file) us file.layout.units y low found
+      → WeekFree (problem file) (price_in us) t found.value.0
   unfolding output headcount never_in
   week_free low found due root done = record {
     below = λ out c enough. omega (arith, done.floor.floor.below out (may out c enough), root.score, prices out);
   }
     where
       p : Problem
-      p = problem_of ws
+      p = problem file
 
-      units : p.units ≡ l.units
-      units = due.at.filed.units_are
+      units : p.units ≡ file.layout.units
+      units = file.filed.units_are
 
-      prices : (out : NumSet) → sum_to l.units (only_in (complement out) (price_in us y.week)) ≡ sum_to p.units (only_in (complement out) (price_in us t))
+      prices : (out : NumSet) → sum_to file.layout.units (only_in (complement out) (price_in us y.week)) ≡ sum_to p.units (only_in (complement out) (price_in us t))
       prices out = rw (root.week, units) refl
 
       never_free : (out : NumSet) → p.demand t ≤ sum_to p.units (only_in (complement out) (p.capacity t)) → (i : ℕ) → i < p.units → out i ≡ true
@@ -263,7 +263,7 @@ module _ (ws : List ℕ) (l : Layout) (us xs : List ℕ) (t : ℕ) (y : FreeNode
           omega (arith, due.never.short i (subst (λ (b : ℕ). has b i ≡ true) root.bar n), sum_without p.units out (p.capacity t) i h e))
 
       may : (out : NumSet) → Compatible p out → p.demand t ≤ sum_to p.units (only_in (complement out) (p.capacity t))
-          → MayBeOut p y.week l.units y.need.0 y.crews (has y.bar) out
+          → MayBeOut p y.week file.layout.units y.need.0 y.crews (has y.bar) out
       may out c enough = record {
         enough = rw (root.week, sym units, root.need) enough;
         few = rw (sym units, root.crews) c.crewed;

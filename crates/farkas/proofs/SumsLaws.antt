@@ -17,11 +17,10 @@ use Rattle.sums.specs.Table.{entry}
 use Rattle.sums.proofs.LogicLaws.{true_false}
 use Rattle.sums.proofs.NumSetLaws.{sum_split, with_back, zero_has}
 use Rattle.sums.proofs.LoopLaws.{zeros_at, sum_next}
-use Rattle.model.specs.declared.Layout.{Layout}
 use Rattle.model.specs.Problem.{Problem}
-use Rattle.model.specs.Words.{problem_of}
+use Rattle.instance.specs.declared.file.File.{File}
+use Rattle.instance.specs.File.{problem}
 use Rattle.instance.specs.declared.Kilo.{Kilo}
-use Rattle.instance.specs.Filed.{Filed}
 use Rattle.tables.specs.Tables.{MOST_PRICE, price_in}
 use Rattle.farkas.specs.declared.week.SumsWith.{SumsWith}
 use Rattle.farkas.specs.Choices.{OPEN, TOP, CAPS, NEVER, SUMS, NeverTo, never_in, SumsTo, FreeAt, NeverDue, OpenPrice, LargerOf, UnitAdded, SumsDue, AtRoot}
@@ -31,30 +30,30 @@ use Rattle.farkas.specs.Choices.{OPEN, TOP, CAPS, NEVER, SUMS, NeverTo, never_in
 pub never_start : (p : Problem) (t : ℕ) → NeverTo p t 0 (has 0)
 never_start p t = record { short = λ i e. true_false (sym e ∙ zero_has i) }
 
-module _ (ws : List ℕ) (l : Layout) (t all i never : ℕ) where
+module _ (file : File) (t all i never : ℕ) where
   -- unit i may never be out
-  pub never_more : (wanted given sum r : ℕ) → NeverDue ws l t all i never → wanted ≡ (problem_of ws).demand t → given ≡ (problem_of ws).capacity t i
-      → sum ≡ wanted + given → all < sum → ((k : ℕ) → has r k ≡ with (has never) i k) → NeverTo (problem_of ws) t (i + 1) (has r)
+  pub never_more : (wanted given sum r : ℕ) → NeverDue file t all i never → wanted ≡ (problem file).demand t → given ≡ (problem file).capacity t i
+      → sum ≡ wanted + given → all < sum → ((k : ℕ) → has r k ≡ with (has never) i k) → NeverTo (problem file) t (i + 1) (has r)
   never_more wanted given sum r due d c s less joins = record {
     short = λ k e. by k (with_back (has never) i k (sym (joins k) ∙ e));
   }
     where
       by : (k : ℕ) → (has never k ≡ true) ⊎ (k ≡ i)
-          → sum_to (problem_of ws).units ((problem_of ws).capacity t) < (problem_of ws).demand t + (problem_of ws).capacity t k
+          → sum_to (problem file).units ((problem file).capacity t) < (problem file).demand t + (problem file).capacity t k
       by k (inl h) = due.so_far.short k h
       by k (inr h) = rw h (omega (arith, due.all_is))
 
   -- it may
-  pub never_same : NeverDue ws l t all i never → NeverTo (problem_of ws) t (i + 1) (has never)
+  pub never_same : NeverDue file t all i never → NeverTo (problem file) t (i + 1) (has never)
   never_same due = record { short = due.so_far.short }
 
-pub never_due : (ws : List ℕ) (l : Layout) (t all n i never : ℕ) → Filed ws l → t < l.weeks → all ≡ sum_to (problem_of ws).units ((problem_of ws).capacity t)
-    → n ≡ l.units → i < n → NeverTo (problem_of ws) t i (has never) → NeverDue ws l t all i never
-never_due ws l t all n i never filed week is few less so_far = record { filed = filed; week = week; unit = omega arith; all_is = is; so_far = so_far }
+pub never_due : (file : File) (t all n i never : ℕ) → t < file.layout.weeks → all ≡ sum_to (problem file).units ((problem file).capacity t)
+    → n ≡ file.layout.units → i < n → NeverTo (problem file) t i (has never) → NeverDue file t all i never
+never_due file t all n i never week is few less so_far = record { week = week; unit = omega arith; all_is = is; so_far = so_far }
 
-pub never_ended : (ws : List ℕ) (l : Layout) (t n i never : ℕ) → Filed ws l → n ≡ l.units → i ≤ n → n ≤ i → NeverTo (problem_of ws) t i (has never)
-    → NeverTo (problem_of ws) t (problem_of ws).units (has never)
-never_ended ws l t n i never filed is a b h = record { short = h.short }
+pub never_ended : (file : File) (t n i never : ℕ) → n ≡ file.layout.units → i ≤ n → n ≤ i → NeverTo (problem file) t i (has never)
+    → NeverTo (problem file) t (problem file).units (has never)
+never_ended file t n i never is a b h = record { short = h.short }
 
 -- ---- a unit's price
 
@@ -81,7 +80,7 @@ larger_of a b r e = by (dec_lt a b)
 
 -- ---- one unit more
 
-module _ (ws : List ℕ) (l : Layout) (us : List ℕ) (t : ℕ) (xs : List ℕ) (i a b c d : ℕ) (due : SumsDue ws l us t xs i) (unit : i < l.units) where
+module _ (file : File) (us : List ℕ) (t : ℕ) (xs : List ℕ) (i a b c d : ℕ) (due : SumsDue file us t xs i) (unit : i < file.layout.units) where
   -- the four writes one after the other
   abbrev x1 : List ℕ
   x1 = set xs (i + 1) a
@@ -96,7 +95,7 @@ module _ (ws : List ℕ) (l : Layout) (us : List ℕ) (t : ℕ) (xs : List ℕ) 
   zs = set x3 (CAPS + (i + 1)) d
 
   few : i < 16
-  few = let h = due.at.filed.units_most in omega arith
+  few = let h = file.filed.units_most in omega arith
 
   long1 : length x1 ≡ SUMS
   long1 = length-set xs (i + 1) a ∙ due.long
@@ -185,10 +184,10 @@ module _ (ws : List ℕ) (l : Layout) (us : List ℕ) (t : ℕ) (xs : List ℕ) 
   open_here price saves is h e = omega (arith, h.open_is e)
 
   module _ (price given saves : ℕ) (price_is : price ≡ price_in us t i) (price_low : price ≤ MOST_PRICE)
-      (given_is : given ≡ (problem_of ws).capacity t i) (given_low : given ≤ 1000000)
+      (given_is : given ≡ (problem file).capacity t i) (given_low : given ≤ 1000000)
       (open_price : OpenPrice (entry xs NEVER) i price saves) (top : LargerOf (entry xs (TOP + i)) saves c)
       (a-is : a ≡ entry xs i + price) (b-is : b ≡ entry xs (OPEN + i) + saves) (d-is : d ≡ entry xs (CAPS + i) + given) where
-    sums : SumsTo (problem_of ws) (price_in us) t (i + 1) zs
+    sums : SumsTo (problem file) (price_in us) t (i + 1) zs
     sums = record {
       prices = to_next (λ (k : ℕ). entry zs k ≡ sum_to k (price_in us t)) (λ k h. old k h ∙ due.sums.prices k h)
           (at_a ∙ sum_next (price_in us t) i (entry xs i) price a (due.sums.prices i (omega arith)) price_is a-is);
@@ -198,8 +197,8 @@ module _ (ws : List ℕ) (l : Layout) (us : List ℕ) (t : ℕ) (xs : List ℕ) 
           (open_term price saves price_is open_price) b-is));
       top = λ k j h m e. to_next (λ (k : ℕ). (j : ℕ) → j < k → never_in xs j ≡ false → price_in us t j ≤ entry zs (TOP + k))
           (λ k h j m e. rw (old_top k h) (due.sums.top k j h m e)) high k h j m (ap (λ (f : NumSet). f j) (sym same_never) ∙ e);
-      caps = to_next (λ (k : ℕ). entry zs (CAPS + k) ≡ sum_to k ((problem_of ws).capacity t)) (λ k h. old_caps k h ∙ due.sums.caps k h)
-          (at_d ∙ sum_next ((problem_of ws).capacity t) i (entry xs (CAPS + i)) given d (due.sums.caps i (omega arith)) given_is d-is);
+      caps = to_next (λ (k : ℕ). entry zs (CAPS + k) ≡ sum_to k ((problem file).capacity t)) (λ k h. old_caps k h ∙ due.sums.caps k h)
+          (at_d ∙ sum_next ((problem file).capacity t) i (entry xs (CAPS + i)) given d (due.sums.caps i (omega arith)) given_is d-is);
       few = to_next (λ (k : ℕ). entry zs k ≤ k * MOST_PRICE) (λ k h. rw (old k h) (due.sums.few k h))
           (omega (arith, at_a, a-is, due.sums.few i (omega arith)));
       low = to_next (λ (k : ℕ). entry zs (TOP + k) ≤ MOST_PRICE) (λ k h. rw (old_top k h) (due.sums.low k h)) (rw at_c (most top.either));
@@ -219,7 +218,7 @@ module _ (ws : List ℕ) (l : Layout) (us : List ℕ) (t : ℕ) (xs : List ℕ) 
             (λ (n : j < i). omega (arith, at_c, top.first, due.sums.top i j (omega arith) n e))
             (eq-or-lt_of_le few)
 
-    put_next : SumsDue ws l us t zs (i + 1)
+    put_next : SumsDue file us t zs (i + 1)
     put_next = record {
       at = due.at;
       long = long4;
@@ -230,9 +229,9 @@ module _ (ws : List ℕ) (l : Layout) (us : List ℕ) (t : ℕ) (xs : List ℕ) 
 
 -- ---- all units
 
-pub given_ended : (ws : List ℕ) (l : Layout) (t i n sum : ℕ) → Filed ws l → n ≡ l.units → i ≤ n → n ≤ i → sum ≡ sum_to i ((problem_of ws).capacity t)
-    → sum ≡ sum_to (problem_of ws).units ((problem_of ws).capacity t)
-given_ended ws l t i n sum filed is a b e = e ∙ ap (λ (k : ℕ). sum_to k ((problem_of ws).capacity t)) (omega (arith, filed.units_are))
+pub given_ended : (file : File) (t i n sum : ℕ) → n ≡ file.layout.units → i ≤ n → n ≤ i → sum ≡ sum_to i ((problem file).capacity t)
+    → sum ≡ sum_to (problem file).units ((problem file).capacity t)
+given_ended file t i n sum is a b e = e ∙ ap (λ (k : ℕ). sum_to k ((problem file).capacity t)) (omega (arith, file.filed.units_are))
 
 -- the root of the search
 pub root_made : (p : Problem) (t : ℕ) (xs : List ℕ) (need : Kilo) (crews bar out : ℕ) → need.0 ≡ p.demand t → crews ≡ p.crews → crews ≤ 16 → bar ≡ entry xs NEVER
@@ -240,17 +239,17 @@ pub root_made : (p : Problem) (t : ℕ) (xs : List ℕ) (need : Kilo) (crews bar
 root_made p t xs need crews bar out n c f b = record { week = refl; need = n; crews = c; few = f; bar = b; score = refl }
 
 -- no unit put in yet: all sums are 0
-pub sums_start : (ws : List ℕ) (l : Layout) (us : List ℕ) (t never : ℕ) → FreeAt ws l us t → never < 4294967296
-    → NeverTo (problem_of ws) t (problem_of ws).units (has never) → SumsDue ws l us t (set (replicate SUMS 0) NEVER never) 0
+pub sums_start : (file : File) (us : List ℕ) (t never : ℕ) → FreeAt file us t → never < 4294967296
+    → NeverTo (problem file) t (problem file).units (has never) → SumsDue file us t (set (replicate SUMS 0) NEVER never) 0
 unfolding never_in sum_to entry
-sums_start ws l us t never at word h = record {
+sums_start file us t never at word h = record {
   at = at;
   long = length-set (replicate SUMS 0) NEVER never ∙ length-replicate {A = ℕ} SUMS 0;
   sums = record {
     prices = λ k m. none k (λ z. omega arith) ∙ empty k m (price_in us t);
     leaving = λ k m. none (OPEN + k) (λ z. omega arith) ∙ empty k m (only_in (complement (has (entry (set (replicate SUMS 0) NEVER never) NEVER))) (price_in us t));
     top = λ k i m d e. absurd (omega arith);
-    caps = λ k m. none (CAPS + k) (λ z. omega arith) ∙ empty k m ((problem_of ws).capacity t);
+    caps = λ k m. none (CAPS + k) (λ z. omega arith) ∙ empty k m ((problem file).capacity t);
     few = λ k m. omega (arith, none k (λ z. omega arith));
     low = λ k m. omega (arith, none (TOP + k) (λ z. omega arith));
     light = λ k m. omega (arith, none (CAPS + k) (λ z. omega arith));
@@ -270,22 +269,22 @@ sums_start ws l us t never at word h = record {
     empty (suc k) m f = absurd (omega arith)
 
 -- unit i is to be put in
-pub sums_few : (ws : List ℕ) (l : Layout) (us : List ℕ) (t : ℕ) (xs : List ℕ) (i : ℕ) → SumsDue ws l us t xs i → entry xs NEVER < 4294967296
-sums_few ws l us t xs i due = due.word
+pub sums_few : (file : File) (us : List ℕ) (t : ℕ) (xs : List ℕ) (i : ℕ) → SumsDue file us t xs i → entry xs NEVER < 4294967296
+sums_few file us t xs i due = due.word
 
-pub sums_ended : (ws : List ℕ) (l : Layout) (us : List ℕ) (t : ℕ) (xs : List ℕ) (i n : ℕ) → SumsDue ws l us t xs i → n ≡ l.units → i ≤ n → n ≤ i
-    → SumsDue ws l us t xs l.units
-sums_ended ws l us t xs i n due is a b = subst (λ (k : ℕ). SumsDue ws l us t xs k) (omega arith) due
+pub sums_ended : (file : File) (us : List ℕ) (t : ℕ) (xs : List ℕ) (i n : ℕ) → SumsDue file us t xs i → n ≡ file.layout.units → i ≤ n → n ≤ i
+    → SumsDue file us t xs file.layout.units
+sums_ended file us t xs i n due is a b = subst (λ (k : ℕ). SumsDue file us t xs k) (omega arith) due
 
 -- sums with one unit more fit a word
-module _ (ws : List ℕ) (l : Layout) (us : List ℕ) (t : ℕ) (xs : List ℕ) (i : ℕ) (due : SumsDue ws l us t xs i) (unit : i < l.units) where
+module _ (file : File) (us : List ℕ) (t : ℕ) (xs : List ℕ) (i : ℕ) (due : SumsDue file us t xs i) (unit : i < file.layout.units) where
   pub prices_fit : (prices price : ℕ) → prices ≡ entry xs i → price ≤ MOST_PRICE → prices + price < 18446744073709551616
-  prices_fit prices price is low = let h = due.at.filed.units_most in omega (arith, due.sums.few i (omega arith))
+  prices_fit prices price is low = let h = file.filed.units_most in omega (arith, due.sums.few i (omega arith))
 
   pub opens_fit : (never price opens saves : ℕ) → opens ≡ entry xs (OPEN + i) → OpenPrice never i price saves → price ≤ MOST_PRICE
       → opens + saves < 18446744073709551616
   opens_fit never price opens saves is h low =
-      let m = due.at.filed.units_most in
+      let m = file.filed.units_most in
       omega (
         arith,
         h.small,
@@ -296,7 +295,7 @@ module _ (ws : List ℕ) (l : Layout) (us : List ℕ) (t : ℕ) (xs : List ℕ) 
       )
 
   pub caps_fit : (caps given : ℕ) → caps ≡ entry xs (CAPS + i) → given ≤ 1000000 → caps + given < 18446744073709551616
-  caps_fit caps given is low = let h = due.at.filed.units_most in omega (arith, due.sums.light i (omega arith))
+  caps_fit caps given is low = let h = file.filed.units_most in omega (arith, due.sums.light i (omega arith))
 
 -- unit i with its sums
 pub added : (p : Problem) (us : List ℕ) (t : ℕ) (xs : List ℕ) (i price saves given a b c d : ℕ) → price ≡ price_in us t i → price ≤ MOST_PRICE
@@ -318,9 +317,9 @@ added p us t xs i price saves given a b c d pi pl gi gl o ea eb lc ed = record {
 }
 
 -- and put into the table
-pub sums_next : (ws : List ℕ) (l : Layout) (us : List ℕ) (t : ℕ) (xs : List ℕ) (i : ℕ) (r : SumsWith) → SumsDue ws l us t xs i → i < l.units
-    → UnitAdded (problem_of ws) us t xs i r
-    → SumsDue ws l us t (set (set (set (set xs (i + 1) r.prices) (OPEN + (i + 1)) r.saved) (TOP + (i + 1)) r.top) (CAPS + (i + 1)) r.caps) (i + 1)
-sums_next ws l us t xs i r due unit h =
-    put_next ws l us t xs i r.prices r.saved r.top r.caps due unit h.price h.given h.saves h.price_is h.price_low h.given_is
+pub sums_next : (file : File) (us : List ℕ) (t : ℕ) (xs : List ℕ) (i : ℕ) (r : SumsWith) → SumsDue file us t xs i → i < file.layout.units
+    → UnitAdded (problem file) us t xs i r
+    → SumsDue file us t (set (set (set (set xs (i + 1) r.prices) (OPEN + (i + 1)) r.saved) (TOP + (i + 1)) r.top) (CAPS + (i + 1)) r.caps) (i + 1)
+sums_next file us t xs i r due unit h =
+    put_next file us t xs i r.prices r.saved r.top r.caps due unit h.price h.given h.saves h.price_is h.price_low h.given_is
     h.given_low h.open_price h.top h.prices h.leaving h.caps

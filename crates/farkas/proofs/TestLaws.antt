@@ -15,11 +15,10 @@ use Rattle.sums.specs.Sum.{sum_to, row_sum}
 use Rattle.sums.proofs.LogicLaws.{true_false}
 use Rattle.sums.proofs.SumLaws.{sum_same}
 use Rattle.sums.proofs.LoopLaws.{sum_next}
-use Rattle.model.specs.declared.Layout.{Layout}
 use Rattle.model.specs.Problem.{Problem}
-use Rattle.model.specs.Words.{problem_of}
 use Rattle.model.proofs.FileLaws.{fair}
-use Rattle.instance.specs.Filed.{Filed}
+use Rattle.instance.specs.declared.file.File.{File}
+use Rattle.instance.specs.File.{problem}
 use Rattle.tables.specs.Tables.{MOST_PRICE, price_in}
 use Rattle.blame.specs.Priced.{price_sum}
 use Rattle.blame.specs.Free.{UnitFree, WeekFree}
@@ -75,30 +74,30 @@ unfolding row_sum
 row_ended f t k n r e a b = e ∙ ap (λ (i : ℕ). sum_to i (f t)) (omega arith)
 
 -- those of all weeks
-pub prices_ended : (ws : List ℕ) (l : Layout) (us : List ℕ) (k n r : ℕ) → PricedFile ws l us → n ≡ l.weeks → r ≡ sum_to k (row_sum l.units (price_in us)) → k ≤ n
-    → n ≤ k → r ≡ price_sum (problem_of ws) (price_in us)
+pub prices_ended : (file : File) (us : List ℕ) (k n r : ℕ) → PricedFile file us → n ≡ file.layout.weeks → r ≡ sum_to k (row_sum file.layout.units (price_in us)) → k ≤ n
+    → n ≤ k → r ≡ price_sum (problem file) (price_in us)
 unfolding price_sum
-prices_ended ws l us k n r file is e a b =
-    let w : k ≡ (problem_of ws).weeks = omega (arith, file.filed.weeks_are) in
-    let u : l.units ≡ (problem_of ws).units = sym file.filed.units_are in
-    e ∙ ap (λ (i : ℕ). sum_to i (row_sum l.units (price_in us))) w ∙ ap (λ (i : ℕ). sum_to (problem_of ws).weeks (row_sum i (price_in us))) u
+prices_ended file us k n r own is e a b =
+    let w : k ≡ (problem file).weeks = omega (arith, file.filed.weeks_are) in
+    let u : file.layout.units ≡ (problem file).units = sym file.filed.units_are in
+    e ∙ ap (λ (i : ℕ). sum_to i (row_sum file.layout.units (price_in us))) w ∙ ap (λ (i : ℕ). sum_to (problem file).weeks (row_sum i (price_in us))) u
 
 -- ---- what a unit and a week ask
 
-pub unit_at : (ws : List ℕ) (l : Layout) (us : List ℕ) (i n : ℕ) → PricedFile ws l us → n ≡ l.units → i < n → UnitAt ws l us i
-unit_at ws l us i n file is less = record { filed = file.filed; unit = omega arith; priced = file.priced }
+pub unit_at : (file : File) (us : List ℕ) (i n : ℕ) → PricedFile file us → n ≡ file.layout.units → i < n → UnitAt file us i
+unit_at file us i n own is less = record { unit = omega arith; priced = own.priced }
 
-pub week_at : (ws : List ℕ) (l : Layout) (us : List ℕ) (t n : ℕ) → PricedFile ws l us → n ≡ l.weeks → t < n → FreeAt ws l us t
-week_at ws l us t n file is less = record { filed = file.filed; week = omega arith; priced = file.priced }
+pub week_at : (file : File) (us : List ℕ) (t n : ℕ) → PricedFile file us → n ≡ file.layout.weeks → t < n → FreeAt file us t
+week_at file us t n own is less = record { week = omega arith; priced = own.priced }
 
 -- ---- what the test shows
 
-pub test_none : (ws : List ℕ) (l : Layout) (us : List ℕ) (units weeks all sum : ℕ) → PricedFile ws l us
-    → Summed (UnitFree (problem_of ws) (price_in us)) (problem_of ws).units units → Summed (WeekFree (problem_of ws) (price_in us)) (problem_of ws).weeks weeks
-    → all ≡ price_sum (problem_of ws) (price_in us) → sum ≡ units + weeks → ShowsNone (problem_of ws) (ltb all sum)
-test_none ws l us units weeks all sum file a b is total = record {
+pub test_none : (file : File) (us : List ℕ) (units weeks all sum : ℕ) → PricedFile file us
+    → Summed (UnitFree (problem file) (price_in us)) (problem file).units units → Summed (WeekFree (problem file) (price_in us)) (problem file).weeks weeks
+    → all ≡ price_sum (problem file) (price_in us) → sum ≡ units + weeks → ShowsNone (problem file) (ltb all sum)
+test_none file us units weeks all sum own a b is total = record {
   none = λ less.
-      prices_none (problem_of ws) (price_in us) a.terms b.terms (fair ws file.filed.passed) a.each b.each
+      prices_none (problem file) (price_in us) a.terms b.terms (fair file.words.now file.filed.passed) a.each b.each
       (omega (arith, ltb-true all sum less, a.sum_is, b.sum_is));
 }
 
@@ -123,11 +122,11 @@ pub step_word : (price magnitude shorter : ℕ) → price ≤ MOST_PRICE → mag
 step_word price magnitude shorter low few = let h = step_small price magnitude shorter low few in omega arith
 
 -- no price moved yet
-pub moved_file : (ws : List ℕ) (l : Layout) (us : List ℕ) → PricedFile ws l us → Moved us us
-moved_file ws l us file = moved_start us file.priced.prices
+pub moved_file : (file : File) (us : List ℕ) → PricedFile file us → Moved us us
+moved_file file us own = moved_start us own.priced.prices
 
 -- one price written
-pub moved_put : (ws : List ℕ) (l : Layout) (xs ys : List ℕ) (t i n v : ℕ) → Filed ws l → Moved xs ys → t < l.weeks → i < n → n ≡ l.units → v ≤ MOST_PRICE
+pub moved_put : (file : File) (xs ys : List ℕ) (t i n v : ℕ) → Moved xs ys → t < file.layout.weeks → i < n → n ≡ file.layout.units → v ≤ MOST_PRICE
     → Moved xs (set ys (t * 16 + i) v)
-moved_put ws l xs ys t i n v filed h week unit is low =
-    let a = filed.weeks_most in moved_next xs ys t i n l.units v h (omega arith) unit is filed.units_most low
+moved_put file xs ys t i n v h week unit is low =
+    let a = file.filed.weeks_most in moved_next xs ys t i n file.layout.units v h (omega arith) unit is file.filed.units_most low

@@ -8,10 +8,10 @@ use native.Mathlib.Decide.{ℕ_discrete}
 use native.Mathlib.Omega.{arith}
 use Rattle.sums.specs.Sum.{sum_to, shifted, transposed}
 use Rattle.sums.proofs.LoopLaws.{sum_next}
-use Rattle.model.specs.declared.Layout.{Layout}
 use Rattle.model.specs.Problem.{Problem}
 use Rattle.model.specs.Domain.{permitted}
-use Rattle.model.specs.Words.{problem_of}
+use Rattle.instance.specs.declared.file.File.{File}
+use Rattle.instance.specs.File.{problem}
 use Rattle.overhaul.specs.Range.{StartRange}
 use Rattle.overhaul.proofs.StartLaws.{range_at}
 use Rattle.overhaul.proofs.UpkeepLaws.{ends_within}
@@ -23,10 +23,10 @@ use Rattle.dual.proofs.CostLaws.{StartsTo, starts_ended, span_ended}
 use Rattle.farkas.specs.Sums.{MOST_SPAN_PRICE, Lower, StartsFree}
 
 -- the overhaul ends in the season
-pub ends_few : (ws : List ℕ) (l : Layout) (i start d : ℕ) → StartAt ws l i start → d ≡ (problem_of ws).duration i → start - 1 + d ≤ 52
-ends_few ws l i start d at is =
-    let h = at.filed.weeks_most in
-    omega (arith, ends_within ws l i start at.filed at.unit at.permits d is)
+pub ends_few : (file : File) (i start d : ℕ) → StartAt file i start → d ≡ (problem file).duration i → start - 1 + d ≤ 52
+ends_few file i start d at is =
+    let h = file.filed.weeks_most in
+    omega (arith, ends_within file i start at.unit at.permits d is)
 
 -- one week more
 pub span_next : (us : List ℕ) (i a k s v r : ℕ) → s ≡ sum_to k (shifted a (transposed (price_in us) i)) → v ≡ price_in us (a + k) i → r ≡ s + v
@@ -35,10 +35,10 @@ unfolding shifted transposed
 span_next us i a k s v r = sum_next (shifted a (transposed (price_in us) i)) k s v r
 
 -- the prices of all weeks of the overhaul
-pub span_priced : (ws : List ℕ) (l : Layout) (us : List ℕ) (i start k d r : ℕ) → StartAt ws l i start → d ≡ (problem_of ws).duration i → k ≤ d → d ≤ k
-    → r ≡ sum_to k (shifted (start - 1) (transposed (price_in us) i)) → r ≡ span_price (problem_of ws) (price_in us) i start
+pub span_priced : (file : File) (us : List ℕ) (i start k d r : ℕ) → StartAt file i start → d ≡ (problem file).duration i → k ≤ d → d ≤ k
+    → r ≡ sum_to k (shifted (start - 1) (transposed (price_in us) i)) → r ≡ span_price (problem file) (price_in us) i start
 unfolding span_price span_sum
-span_priced ws l us i start k d r at is m n e = span_ended ws l (transposed (price_in us) i) i start k d r at is m n e
+span_priced file us i start k d r at is m n e = span_ended file (transposed (price_in us) i) i start k d r at is m n e
 
 -- no start yet
 pub free_start : (p : Problem) (u : ℕ → ℕ → ℕ) (i a b : ℕ) → StartRange p i a b → StartsFree p u i a MOST_SPAN_PRICE

@@ -5,11 +5,10 @@ use Rattle.std.specs.Prelude.{ℕ, suc, ◌+◌, ◌-◌, ◌*◌, ◌≤◌, �
 use Rattle.sums.specs.Sum.{sum_to, counts_one}
 use Rattle.sums.specs.NumSet.{NumSet, only_in, complement, has}
 use Rattle.sums.specs.Table.{entry}
-use Rattle.model.specs.declared.Layout.{Layout}
 use Rattle.model.specs.Problem.{Problem}
 use Rattle.model.specs.Pairs.{apart}
-use Rattle.model.specs.Words.{problem_of}
-use Rattle.instance.specs.Filed.{Filed}
+use Rattle.instance.specs.declared.file.File.{File}
+use Rattle.instance.specs.File.{problem}
 use Rattle.tables.specs.Tables.{MOST_WEEK_PRICES, MOST_PRICE, price_in, Priced}
 use Rattle.farkas.specs.declared.week.FreeNode.{FreeNode}
 use Rattle.farkas.specs.declared.week.FreeWeek.{FreeWeek}
@@ -76,18 +75,16 @@ pub record SumsTo (p : Problem) (u : ℕ → ℕ → ℕ) (t n : ℕ) (xs : List
 -- ---- what is asked and given
 
 -- what every function of a week has: a file, its week, prices and partners
-pub record FreeAt (ws : List ℕ) (l : Layout) (us : List ℕ) (t : ℕ) : Type 0 where
-  pub filed : Filed ws l
-  pub week : t < l.weeks
-  pub priced : Priced (problem_of ws) us
+pub record FreeAt (file : File) (us : List ℕ) (t : ℕ) : Type 0 where
+  pub week : t < file.layout.weeks
+  pub priced : Priced (problem file) us
 
 -- unit i is to be looked at after the units below it, where all units give so much
-pub record NeverDue (ws : List ℕ) (l : Layout) (t all i never : ℕ) : Type 0 where
-  pub filed : Filed ws l
-  pub week : t < l.weeks
-  pub unit : i < l.units
-  pub all_is : all ≡ sum_to (problem_of ws).units ((problem_of ws).capacity t)
-  pub so_far : NeverTo (problem_of ws) t i (has never)
+pub record NeverDue (file : File) (t all i never : ℕ) : Type 0 where
+  pub week : t < file.layout.weeks
+  pub unit : i < file.layout.units
+  pub all_is : all ≡ sum_to (problem file).units ((problem file).capacity t)
+  pub so_far : NeverTo (problem file) t i (has never)
 
 -- the price of a unit that may be out, 0 of one that may never
 pub record OpenPrice (never i price r : ℕ) : Type 0 where
@@ -102,11 +99,11 @@ pub record LargerOf (a b r : ℕ) : Type 0 where
   pub either : (r ≡ a) ⊎ (r ≡ b)
 
 -- sums over the units below n, with the units that may never be out
-pub record SumsDue (ws : List ℕ) (l : Layout) (us : List ℕ) (t : ℕ) (xs : List ℕ) (n : ℕ) : Type 0 where
-  pub at : FreeAt ws l us t
+pub record SumsDue (file : File) (us : List ℕ) (t : ℕ) (xs : List ℕ) (n : ℕ) : Type 0 where
+  pub at : FreeAt file us t
   pub long : length xs ≡ SUMS
-  pub sums : SumsTo (problem_of ws) (price_in us) t n xs
-  pub never : NeverTo (problem_of ws) t (problem_of ws).units (never_in xs)
+  pub sums : SumsTo (problem file) (price_in us) t n xs
+  pub never : NeverTo (problem file) t (problem file).units (never_in xs)
   pub word : entry xs NEVER < 4294967296
 
 -- the sums over the units below i, with unit i: its price, what it saves where it is out, and what it gives
@@ -138,29 +135,29 @@ pub record Savable (xs : List ℕ) (k crews r : ℕ) : Type 0 where
   pub either : (r ≡ entry xs (OPEN + k)) ⊎ (r ≡ crews * entry xs (TOP + k))
 
 -- a node before its highest unit is decided
-pub record NodeDue (ws : List ℕ) (l : Layout) (us xs : List ℕ) (k : ℕ) (y : FreeNode) : Type 0 where
-  pub at : FreeAt ws l us y.week
-  pub units : k ≤ l.units
-  pub sums : SumsTo (problem_of ws) (price_in us) y.week l.units xs
+pub record NodeDue (file : File) (us xs : List ℕ) (k : ℕ) (y : FreeNode) : Type 0 where
+  pub at : FreeAt file us y.week
+  pub units : k ≤ file.layout.units
+  pub sums : SumsTo (problem file) (price_in us) y.week file.layout.units xs
   pub never : (i : ℕ) → never_in xs i ≡ true → has y.bar i ≡ true
   pub few : y.crews ≤ 16
   pub small : y.score.0 + entry xs k ≤ MOST_WEEK_PRICES
 
 -- the same as one fact: a search for a proof enters every record it meets, and leaves this alone
-unfoldable pub NodeAt : (ws : List ℕ) → Layout → (us xs : List ℕ) → ℕ → FreeNode → Type 0
-NodeAt ws l us xs k y = NodeDue ws l us xs k y
+unfoldable pub NodeAt : (file : File) → (us xs : List ℕ) → ℕ → FreeNode → Type 0
+NodeAt file us xs k y = NodeDue file us xs k y
 
 -- the node's highest unit is i, and a crew is left for it
-pub record TryAt (ws : List ℕ) (l : Layout) (us xs : List ℕ) (i : ℕ) (y : FreeNode) : Type 0 where
-  pub at : FreeAt ws l us y.week
-  pub unit : i < l.units
-  pub node : NodeAt ws l us xs (suc i) y
+pub record TryAt (file : File) (us xs : List ℕ) (i : ℕ) (y : FreeNode) : Type 0 where
+  pub at : FreeAt file us y.week
+  pub unit : i < file.layout.units
+  pub node : NodeAt file us xs (suc i) y
   pub crew : 0 < y.crews
 
 -- unit i of a week may stay
-pub record StayDue (ws : List ℕ) (l : Layout) (us : List ℕ) (i : ℕ) (y : FreeNode) : Type 0 where
-  pub at : FreeAt ws l us y.week
-  pub unit : i < l.units
+pub record StayDue (file : File) (us : List ℕ) (i : ℕ) (y : FreeNode) : Type 0 where
+  pub at : FreeAt file us y.week
+  pub unit : i < file.layout.units
   pub small : y.score.0 ≤ MOST_WEEK_PRICES
 
 -- v is at most what a node comes to

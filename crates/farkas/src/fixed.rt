@@ -1,15 +1,13 @@
 // Three tables of prices that need no search, and the test at each: a price where the overhaul of a unit takes a week whatever its start, where it may
 // take it, and the same by what the unit gives.
 ghost use Rattle.std.specs.Prelude.{◌≡◌, ◌<◌, ◌≤◌};
-ghost use Rattle.model.specs.Words.{problem_of};
-ghost use Rattle.instance.specs.Filed.{Filed};
 ghost use Rattle.tables.specs.Tables.{MOST_PRICE, Prices};
 ghost use Rattle.farkas.specs.Sums.{ShowsNone};
 ghost use Rattle.prices.specs.Ranges.{PricedFile, Moved};
+ghost use Rattle.instance.specs.File.{problem};
 
 use crate::{shows_none, week};
-use instance::Kilo;
-use model::Layout;
+use instance::{File, Kilo};
 use overhaul::Starts;
 use prices::Wants;
 use tables::{MOST_PRICE, TABLES};
@@ -59,67 +57,67 @@ fn weighed(given: Kilo, mean: u64) -> u64
 }
 
 // The price of unit i in week t, where the mean of what units give is this.
-fn fixed_price(words: &[u32], l: Layout, by: Pricing, mean: u64, t: usize, i: usize) -> u64
-    requires { Filed words.now l × (t < l.weeks) × (i < l.units) }
+fn fixed_price(file: &File, by: Pricing, mean: u64, t: usize, i: usize) -> u64
+    requires { (t < file.now.layout.weeks) × (i < file.now.layout.units) }
     ensures { result ≤ MOST_PRICE }
 {
-    let starts = overhaul::starts_of(words, l, i);
-    let duration = instance::duration(words, l, i);
+    let starts = overhaul::starts_of(file, i);
+    let duration = file.duration(i);
     match by {
         Pricing::Always => price_where(always_out(starts, duration, t), ONE),
         Pricing::Sometimes => price_where(sometimes_out(starts, duration, t), ONE),
         Pricing::Weighed => {
-            let price = weighed(instance::capacity(words, l, t, i), mean);
+            let price = weighed(file.capacity(t, i), mean);
             price_where(sometimes_out(starts, duration, t), price)
         }
     }
 }
 
 // Puts the prices of week t.
-fn put_week(words: &[u32], l: Layout, by: Pricing, t: usize, tables: &mut [u32; TABLES])
-    requires { Filed words.now l × (t < l.weeks) × Prices tables.old }
+fn put_week(file: &File, by: Pricing, t: usize, tables: &mut [u32; TABLES])
+    requires { (t < file.now.layout.weeks) × Prices tables.old }
     ensures { Moved tables.old tables.new }
 {
-    let units = l.units;
-    let mean = week::all_given(words, l, t).0 / units as u64;
+    let units = file.layout.units;
+    let mean = week::all_given(file, t).0 / units as u64;
     for i in 0..units {
-        tables[t * 16 + i] = fixed_price(words, l, by, mean, t, i) as u32;
+        tables[t * 16 + i] = fixed_price(file, by, mean, t, i) as u32;
     }
 }
 
 // A table with such prices.
-pub fn fixed_prices(words: &[u32], l: Layout, tables: &[u32; TABLES], by: Pricing) -> [u32; TABLES]
-    requires { PricedFile words.now l tables.now }
-    ensures { PricedFile words.now l result }
+pub fn fixed_prices(file: &File, tables: &[u32; TABLES], by: Pricing) -> [u32; TABLES]
+    requires { PricedFile file.now tables.now }
+    ensures { PricedFile file.now result }
 {
-    let weeks = l.weeks;
+    let weeks = file.layout.weeks;
     let mut next = *tables;
     for t in 0..weeks {
-        put_week(words, l, by, t, &mut next);
+        put_week(file, by, t, &mut next);
     }
     next
 }
 
 // Whether the prices of one of the tables show that there is no schedule.
-fn table_none(words: &[u32], l: Layout, tables: &[u32; TABLES], by: Pricing) -> bool
-    requires { PricedFile words.now l tables.now }
-    ensures { ShowsNone (problem_of words.now) result }
+fn table_none(file: &File, tables: &[u32; TABLES], by: Pricing) -> bool
+    requires { PricedFile file.now tables.now }
+    ensures { ShowsNone (problem file.now) result }
 {
     let mut wants = Wants::NONE;
-    let next = fixed_prices(words, l, tables, by);
-    shows_none(words, l, &next, &mut wants)
+    let next = fixed_prices(file, tables, by);
+    shows_none(file, &next, &mut wants)
 }
 
 // Whether the prices of one of three fixed tables show that there is no schedule. Of the table given all but the prices is kept.
-pub fn fixed_none(words: &[u32], l: Layout, tables: &[u32; TABLES]) -> bool
-    requires { PricedFile words.now l tables.now }
-    ensures { ShowsNone (problem_of words.now) result }
+pub fn fixed_none(file: &File, tables: &[u32; TABLES]) -> bool
+    requires { PricedFile file.now tables.now }
+    ensures { ShowsNone (problem file.now) result }
 {
-    if table_none(words, l, tables, Pricing::Always) {
+    if table_none(file, tables, Pricing::Always) {
         return true;
     }
-    if table_none(words, l, tables, Pricing::Sometimes) {
+    if table_none(file, tables, Pricing::Sometimes) {
         return true;
     }
-    table_none(words, l, tables, Pricing::Weighed)
+    table_none(file, tables, Pricing::Weighed)
 }

@@ -7,14 +7,14 @@
 
 ghost use Rattle.std.specs.Prelude.{◌≡◌, ◌*◌, ◌<◌, ◌≤◌};
 ghost use Rattle.sums.specs.Sum.{sum_to, row_sum};
-ghost use Rattle.model.specs.Words.{problem_of};
 ghost use Rattle.tables.specs.Tables.{MOST_WEEK_PRICES, price_in, Prices};
 ghost use Rattle.blame.specs.Priced.{price_sum};
 ghost use Rattle.blame.specs.Free.{UnitFree, WeekFree};
 ghost use Rattle.prices.specs.Ranges.{PricedFile};
 ghost use Rattle.farkas.specs.Sums.{MOST_FREE, Summed, ShowsNone};
+ghost use Rattle.instance.specs.File.{problem};
 
-use instance::Euro;
+use instance::{Euro, File};
 use model::Layout;
 use prices::Wants;
 use tables::TABLES;
@@ -27,33 +27,33 @@ mod week;
 // ---- what overhauls and weeks come to
 
 // What all overhauls come to at least; the start that each unit wants is written.
-fn units_sum(words: &[u32], l: Layout, tables: &[u32; TABLES], wants: &mut Wants) -> Euro
-    requires { PricedFile words.now l tables.now }
-    ensures { Summed (UnitFree (problem_of words.now) (price_in tables.now)) (problem_of words.now).units result.0
+fn units_sum(file: &File, tables: &[u32; TABLES], wants: &mut Wants) -> Euro
+    requires { PricedFile file.now tables.now }
+    ensures { Summed (UnitFree (problem file.now) (price_in tables.now)) (problem file.now).units result.0
         × (result.0 ≤ MOST_FREE) }
 {
-    let units = l.units;
+    let units = file.layout.units;
     let mut sum = Euro(0);
     for i in 0..units {
-        let least = unit::free_unit(words, l, tables, i);
+        let least = unit::free_unit(file, tables, i);
         wants.starts[i] = least.start;
-        sum = sum.plus(least.price);
+        sum += least.price;
     }
     sum
 }
 
 // What all weeks come to at least; the units that each wants out are written.
-fn weeks_sum(words: &[u32], l: Layout, tables: &[u32; TABLES], wants: &mut Wants) -> Euro
-    requires { PricedFile words.now l tables.now }
-    ensures { Summed (WeekFree (problem_of words.now) (price_in tables.now)) (problem_of words.now).weeks result.0
+fn weeks_sum(file: &File, tables: &[u32; TABLES], wants: &mut Wants) -> Euro
+    requires { PricedFile file.now tables.now }
+    ensures { Summed (WeekFree (problem file.now) (price_in tables.now)) (problem file.now).weeks result.0
         × (result.0 ≤ MOST_FREE) }
 {
-    let weeks = l.weeks;
+    let weeks = file.layout.weeks;
     let mut sum = Euro(0);
     for t in 0..weeks {
-        let least = week::free_week(words, l, tables, t);
+        let least = week::free_week(file, tables, t);
         wants.out[t] = least.out;
-        sum = sum.plus(least.value);
+        sum += least.value;
     }
     sum
 }
@@ -66,20 +66,20 @@ fn week_prices(l: Layout, tables: &[u32; TABLES], t: usize) -> Euro
     let units = l.units;
     let mut sum = Euro(0);
     for i in 0..units {
-        sum = sum.plus(tables::price(tables, t, i));
+        sum += tables::price(tables, t, i);
     }
     sum
 }
 
 // All prices.
-fn all_prices(words: &[u32], l: Layout, tables: &[u32; TABLES]) -> Euro
-    requires { PricedFile words.now l tables.now }
-    ensures { result.0 ≡ price_sum (problem_of words.now) (price_in tables.now) }
+fn all_prices(file: &File, tables: &[u32; TABLES]) -> Euro
+    requires { PricedFile file.now tables.now }
+    ensures { result.0 ≡ price_sum (problem file.now) (price_in tables.now) }
 {
-    let weeks = l.weeks;
+    let weeks = file.layout.weeks;
     let mut sum = Euro(0);
     for t in 0..weeks {
-        sum = sum.plus(week_prices(l, tables, t));
+        sum += week_prices(file.layout, tables, t);
     }
     sum
 }
@@ -87,14 +87,14 @@ fn all_prices(words: &[u32], l: Layout, tables: &[u32; TABLES]) -> Euro
 // ---- the test
 
 // Whether these prices show that there is no schedule: overhauls and weeks come to more than all of them. What units and weeks want is written.
-pub fn shows_none(words: &[u32], l: Layout, tables: &[u32; TABLES], wants: &mut Wants) -> bool
-    requires { PricedFile words.now l tables.now }
-    ensures { ShowsNone (problem_of words.now) result }
+pub fn shows_none(file: &File, tables: &[u32; TABLES], wants: &mut Wants) -> bool
+    requires { PricedFile file.now tables.now }
+    ensures { ShowsNone (problem file.now) result }
 {
-    let units = units_sum(words, l, tables, wants);
-    let weeks = weeks_sum(words, l, tables, wants);
-    let all = all_prices(words, l, tables);
-    all.0 < units.plus(weeks).0
+    let units = units_sum(file, tables, wants);
+    let weeks = weeks_sum(file, tables, wants);
+    let all = all_prices(file, tables);
+    all.0 < (units + weeks).0
 }
 
 // What is known so far: whether the rounds were made, and whether it was shown that there is no schedule.
@@ -105,26 +105,26 @@ pub struct Findings {
 }
 
 // What three fixed tables show. Of the table given all but the prices is kept.
-pub fn try_fixed(words: &[u32], l: Layout, tables: &[u32; TABLES]) -> Findings
-    requires { PricedFile words.now l tables.now }
-    ensures { ShowsNone (problem_of words.now) result.shown }
+pub fn try_fixed(file: &File, tables: &[u32; TABLES]) -> Findings
+    requires { PricedFile file.now tables.now }
+    ensures { ShowsNone (problem file.now) result.shown }
 {
     Findings {
         tried: false,
-        shown: fixed::fixed_none(words, l, tables),
+        shown: fixed::fixed_none(file, tables),
     }
 }
 
 // What the rounds show, made once: where they were made it is what is known.
-pub fn try_rounds(words: &[u32], l: Layout, tables: &[u32; TABLES], known: Findings) -> Findings
-    requires { PricedFile words.now l tables.now × ShowsNone (problem_of words.now) known.shown }
-    ensures { ShowsNone (problem_of words.now) result.shown }
+pub fn try_rounds(file: &File, tables: &[u32; TABLES], known: Findings) -> Findings
+    requires { PricedFile file.now tables.now × ShowsNone (problem file.now) known.shown }
+    ensures { ShowsNone (problem file.now) result.shown }
 {
     if known.tried {
         return known;
     }
     Findings {
         tried: true,
-        shown: rounds::rounds_none(words, l, tables),
+        shown: rounds::rounds_none(file, tables),
     }
 }

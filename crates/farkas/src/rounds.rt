@@ -2,14 +2,14 @@
 // steps. They keep their scale so; added steps shrink all prices together, which looks like progress and shows nothing.
 ghost use Rattle.std.specs.Prelude.{◌≡◌, ◌+◌, ◌<◌, ◌≤◌};
 ghost use Rattle.sums.specs.Table.{AtMost};
-ghost use Rattle.model.specs.Words.{problem_of};
 ghost use Rattle.tables.specs.Tables.{MOST_PRICE, Prices};
 ghost use Rattle.farkas.specs.Sums.{ShowsNone};
 ghost use Rattle.prices.specs.Ranges.{LEVEL, MOST_PUSH, PricedFile, Moved};
+ghost use Rattle.instance.specs.File.{problem};
 
 use crate::fixed::{Pricing, fixed_prices};
 use crate::shows_none;
-use instance::Euro;
+use instance::{Euro, File};
 use model::Layout;
 use prices::{LEVEL, PLACES, Wants};
 use tables::{MOST_PRICE, TABLES};
@@ -98,38 +98,31 @@ fn multiply(l: Layout, shorter: u64, push: &[u32; PLACES], tables: &mut [u32; TA
 }
 
 // A round: pushes, a step, and the test at the new prices.
-fn run_round(
-    words: &[u32],
-    l: Layout,
-    shorter: u64,
-    tables: &mut [u32; TABLES],
-    push: &mut [u32; PLACES],
-    wants: &mut Wants,
-) -> bool
-    requires { PricedFile words.now l tables.old × AtMost MOST_PUSH push.old × (0 < shorter) }
-    ensures ranges { PricedFile words.now l tables.new × AtMost MOST_PUSH push.new }
-    ensures none { ShowsNone (problem_of words.now) result }
+fn run_round(file: &File, shorter: u64, tables: &mut [u32; TABLES], push: &mut [u32; PLACES], wants: &mut Wants) -> bool
+    requires { PricedFile file.now tables.old × AtMost MOST_PUSH push.old × (0 < shorter) }
+    ensures ranges { PricedFile file.now tables.new × AtMost MOST_PUSH push.new }
+    ensures none { ShowsNone (problem file.now) result }
 {
-    prices::update_momentum(words, l, wants, push);
-    multiply(l, shorter, push, tables);
-    shows_none(words, l, tables, wants)
+    prices::update_momentum(file, wants, push);
+    multiply(file.layout, shorter, push, tables);
+    shows_none(file, tables, wants)
 }
 
 // Whether rounds from prices for every week that an overhaul may take show that there is no schedule. Of the table given all but the prices is kept.
-pub fn rounds_none(words: &[u32], l: Layout, tables: &[u32; TABLES]) -> bool
-    requires { PricedFile words.now l tables.now }
-    ensures { ShowsNone (problem_of words.now) result }
+pub fn rounds_none(file: &File, tables: &[u32; TABLES]) -> bool
+    requires { PricedFile file.now tables.now }
+    ensures { ShowsNone (problem file.now) result }
 {
-    let most = l.units * ROUNDS;
+    let most = file.layout.units * ROUNDS;
     let mut wants = Wants::NONE;
     let mut push: [u32; PLACES] = [LEVEL; PLACES];
-    let mut next = fixed_prices(words, l, tables, Pricing::Sometimes);
-    if shows_none(words, l, &next, &mut wants) {
+    let mut next = fixed_prices(file, tables, Pricing::Sometimes);
+    if shows_none(file, &next, &mut wants) {
         return true;
     }
     for n in 0..most {
         let shorter = (1 + n / HALVING) as u64;
-        if run_round(words, l, shorter, &mut next, &mut push, &mut wants) {
+        if run_round(file, shorter, &mut next, &mut push, &mut wants) {
             return true;
         }
     }

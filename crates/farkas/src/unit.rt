@@ -1,13 +1,12 @@
 // An overhaul on the free plant: what the prices of its weeks come to at least.
 ghost use Rattle.std.specs.Prelude.{◌≡◌, ◌≤◌};
-ghost use Rattle.model.specs.Words.{problem_of};
 ghost use Rattle.tables.specs.Tables.{price_in, Priced};
 ghost use Rattle.blame.specs.Free.{span_price, UnitFree};
 ghost use Rattle.dual.specs.Made.{UnitAt, StartAt};
 ghost use Rattle.farkas.specs.Sums.{MOST_SPAN_PRICE, Lower};
+ghost use Rattle.instance.specs.File.{problem};
 
-use instance::Euro;
-use model::Layout;
+use instance::{Euro, File};
 use tables::TABLES;
 
 // What the prices of an overhaul come to at most: 52 weeks at the highest.
@@ -21,15 +20,15 @@ pub struct FreeStart {
 }
 
 // The prices of the weeks of unit i's overhaul from a permitted start.
-fn span_price(words: &[u32], l: Layout, tables: &[u32; TABLES], i: usize, start: usize) -> Euro
-    requires { StartAt words.now l i start × Priced (problem_of words.now) tables.now }
-    ensures { result.0 ≡ span_price (problem_of words.now) (price_in tables.now) i start }
+fn span_price(file: &File, tables: &[u32; TABLES], i: usize, start: usize) -> Euro
+    requires { StartAt file.now i start × Priced (problem file.now) tables.now }
+    ensures { result.0 ≡ span_price (problem file.now) (price_in tables.now) i start }
 {
-    let duration = instance::duration(words, l, i);
+    let duration = file.duration(i);
     let first = start - 1;
     let mut sum = Euro(0);
     for k in 0..duration {
-        sum = sum.plus(tables::price(tables, first + k, i));
+        sum += tables::price(tables, first + k, i);
     }
     sum
 }
@@ -45,17 +44,17 @@ fn lower(least: FreeStart, price: Euro, start: u32) -> FreeStart
 }
 
 // The permitted start of unit i from which these prices are least, the first of equals. The start is advice.
-pub fn free_unit(words: &[u32], l: Layout, tables: &[u32; TABLES], i: usize) -> FreeStart
-    requires { UnitAt words.now l tables.now i }
-    ensures { UnitFree (problem_of words.now) (price_in tables.now) i result.price.0 × (result.price.0 ≤ MOST_SPAN_PRICE) }
+pub fn free_unit(file: &File, tables: &[u32; TABLES], i: usize) -> FreeStart
+    requires { UnitAt file.now tables.now i }
+    ensures { UnitFree (problem file.now) (price_in tables.now) i result.price.0 × (result.price.0 ≤ MOST_SPAN_PRICE) }
 {
-    let starts = overhaul::starts_of(words, l, i);
+    let starts = overhaul::starts_of(file, i);
     let mut least = FreeStart {
         price: Euro(MOST_SPAN_PRICE),
         start: 0,
     };
     for s in starts.first..starts.last + 1 {
-        let price = span_price(words, l, tables, i, s);
+        let price = span_price(file, tables, i, s);
         least = lower(least, price, s as u32);
     }
     least

@@ -4,14 +4,12 @@ ghost use Rattle.std.specs.Prelude.{◌≡◌, true, false, ◌+◌, ◌*◌, �
 ghost use Rattle.sums.specs.Sum.{sum_to};
 ghost use Rattle.sums.specs.NumSet.{has};
 ghost use Rattle.sums.specs.Table.{entry};
-ghost use Rattle.model.specs.Words.{problem_of};
 ghost use Rattle.blame.specs.Free.{WeekFree};
-ghost use Rattle.instance.specs.Filed.{Filed};
 ghost use Rattle.tables.specs.Tables.{MOST_PRICE, MOST_WEEK_PRICES, price_in};
 ghost use Rattle.farkas.specs.Choices.{NEVER, TOP, CAPS, NO_WEEK, NeverTo, NeverDue, OpenPrice, UnitAdded, SumsDue, AtRoot, FreeAt, Savable, NodeDue, NodeAt, TryAt, StayDue, NodeFloor, NodeDone, Seen, Stays, Leaves, OutTried};
+ghost use Rattle.instance.specs.File.{problem};
 
-use instance::{Euro, Kilo};
-use model::Layout;
+use instance::{Euro, File, Kilo};
 use tables::TABLES;
 
 // What is given for a week in which no units may be out: more than all prices together.
@@ -60,41 +58,40 @@ enum Looked {
 // ---- the sums
 
 // What all units give in week t.
-pub fn all_given(words: &[u32], l: Layout, t: usize) -> Kilo
-    requires { Filed words.now l }
-    ensures { (result.0 ≡ sum_to (problem_of words.now).units ((problem_of words.now).capacity t)) × (result.0 ≤ 16000000) }
+pub fn all_given(file: &File, t: usize) -> Kilo
+    ensures { (result.0 ≡ sum_to (problem file.now).units ((problem file.now).capacity t)) × (result.0 ≤ 16000000) }
 {
-    let units = l.units;
+    let units = file.layout.units;
     let mut sum = Kilo(0);
     for i in 0..units {
-        sum = sum.plus(instance::capacity(words, l, t, i));
+        sum += file.capacity(t, i);
     }
     sum
 }
 
 // The units that may never be out, with unit i where the others give less than is wanted.
-fn never_with(words: &[u32], l: Layout, t: usize, all: Kilo, never: u32, i: usize) -> u32
-    requires { NeverDue words.now l t all.0 i never }
-    ensures { NeverTo (problem_of words.now) t (i + 1) (has result) }
+fn never_with(file: &File, t: usize, all: Kilo, never: u32, i: usize) -> u32
+    requires { NeverDue file.now t all.0 i never }
+    ensures { NeverTo (problem file.now) t (i + 1) (has result) }
 {
-    let wanted = instance::demand(words, l, t);
-    let given = instance::capacity(words, l, t, i);
-    if all.0 < wanted.plus(given).0 {
+    let wanted = file.demand(t);
+    let given = file.capacity(t, i);
+    if all.0 < (wanted + given).0 {
         return sets::with(never, i);
     }
     never
 }
 
 // The units that may never be out of week t: without one of them the capacities fall short of the demand.
-fn never_out(words: &[u32], l: Layout, t: usize) -> u32
-    requires { Filed words.now l × (t < l.weeks) }
-    ensures { NeverTo (problem_of words.now) t (problem_of words.now).units (has result) }
+fn never_out(file: &File, t: usize) -> u32
+    requires { (t < file.now.layout.weeks) }
+    ensures { NeverTo (problem file.now) t (problem file.now).units (has result) }
 {
-    let units = l.units;
-    let all = all_given(words, l, t);
+    let units = file.layout.units;
+    let all = all_given(file, t);
     let mut never: u32 = 0;
     for i in 0..units {
-        never = never_with(words, l, t, all, never, i);
+        never = never_with(file, t, all, never, i);
     }
     never
 }
@@ -120,19 +117,12 @@ struct SumsWith {
 }
 
 // The sums over the units below i, with unit i.
-fn sums_with(
-    words: &[u32],
-    l: Layout,
-    tables: &[u32; TABLES],
-    t: usize,
-    i: usize,
-    sums: &[u64; SUMS],
-) -> SumsWith
-    requires { SumsDue words.now l tables.now t sums.now i × (i < l.units) }
-    ensures { UnitAdded (problem_of words.now) tables.now t sums.now i result }
+fn sums_with(file: &File, tables: &[u32; TABLES], t: usize, i: usize, sums: &[u64; SUMS]) -> SumsWith
+    requires { SumsDue file.now tables.now t sums.now i × (i < file.now.layout.units) }
+    ensures { UnitAdded (problem file.now) tables.now t sums.now i result }
 {
     let price = tables::price(tables, t, i);
-    let given = instance::capacity(words, l, t, i);
+    let given = file.capacity(t, i);
     let open = open_price(sums[NEVER], i, price);
     let prices = sums[i];
     let opens = sums[OPEN + i];
@@ -146,18 +136,11 @@ fn sums_with(
 }
 
 // Puts unit i into sums over the units below it.
-fn put_unit(
-    words: &[u32],
-    l: Layout,
-    tables: &[u32; TABLES],
-    t: usize,
-    i: usize,
-    sums: &mut [u64; SUMS],
-)
-    requires { SumsDue words.now l tables.now t sums.old i × (i < l.units) }
-    ensures { SumsDue words.now l tables.now t sums.new (i + 1) }
+fn put_unit(file: &File, tables: &[u32; TABLES], t: usize, i: usize, sums: &mut [u64; SUMS])
+    requires { SumsDue file.now tables.now t sums.old i × (i < file.now.layout.units) }
+    ensures { SumsDue file.now tables.now t sums.new (i + 1) }
 {
-    let with = sums_with(words, l, tables, t, i, sums);
+    let with = sums_with(file, tables, t, i, sums);
     let next = i + 1;
     sums[next] = with.prices;
     sums[OPEN + next] = with.saved;
@@ -166,15 +149,15 @@ fn put_unit(
 }
 
 // The sums of week t.
-fn sums_of(words: &[u32], l: Layout, tables: &[u32; TABLES], t: usize) -> [u64; SUMS]
-    requires { FreeAt words.now l tables.now t }
-    ensures { SumsDue words.now l tables.now t result l.units }
+fn sums_of(file: &File, tables: &[u32; TABLES], t: usize) -> [u64; SUMS]
+    requires { FreeAt file.now tables.now t }
+    ensures { SumsDue file.now tables.now t result file.now.layout.units }
 {
-    let units = l.units;
+    let units = file.layout.units;
     let mut sums: [u64; SUMS] = [0; SUMS];
-    sums[NEVER] = never_out(words, l, t) as u64;
+    sums[NEVER] = never_out(file, t) as u64;
     for i in 0..units {
-        put_unit(words, l, tables, t, i, &mut sums);
+        put_unit(file, tables, t, i, &mut sums);
     }
     sums
 }
@@ -182,14 +165,14 @@ fn sums_of(words: &[u32], l: Layout, tables: &[u32; TABLES], t: usize) -> [u64; 
 // ---- a node
 
 // The node before any unit is decided.
-fn root_node(words: &[u32], l: Layout, t: usize, sums: &[u64; SUMS]) -> FreeNode
-    requires { Filed words.now l × (t < l.weeks) × (entry sums.now NEVER < 4294967296) }
-    ensures { AtRoot (problem_of words.now) t sums.now result }
+fn root_node(file: &File, t: usize, sums: &[u64; SUMS]) -> FreeNode
+    requires { (t < file.now.layout.weeks) × (entry sums.now NEVER < 4294967296) }
+    ensures { AtRoot (problem file.now) t sums.now result }
 {
     FreeNode {
         week: t,
-        need: instance::demand(words, l, t),
-        crews: instance::crews(words, l) as u64,
+        need: file.demand(t),
+        crews: file.crews() as u64,
         bar: sums[NEVER] as u32,
         out: 0,
         score: Euro(0),
@@ -222,41 +205,26 @@ fn savable(sums: &[u64; SUMS], k: usize, crews: u64) -> u64
 }
 
 // What a node comes to at least.
-fn bound(
-    words: &[u32],
-    l: Layout,
-    tables: &[u32; TABLES],
-    sums: &[u64; SUMS],
-    k: usize,
-    y: FreeNode,
-) -> Euro
-    requires { NodeDue words.now l tables.now sums.now k y }
-    ensures { NodeFloor (problem_of words.now) tables.now k y result.0 × (result.0 ≤ MOST_WEEK_PRICES) }
+fn bound(file: &File, tables: &[u32; TABLES], sums: &[u64; SUMS], k: usize, y: FreeNode) -> Euro
+    requires { NodeDue file.now tables.now sums.now k y }
+    ensures { NodeFloor (problem file.now) tables.now k y result.0 × (result.0 ≤ MOST_WEEK_PRICES) }
 {
     let all = prices_below(sums, k);
     let saved = savable(sums, k, y.crews);
-    y.score.plus(Euro(all)).less(Euro(saved))
+    (y.score + Euro(all)).saturating_sub(Euro(saved))
 }
 
 // A node before its highest unit is decided. It is done with where the capacities left fall short, where it cannot come below the least, where no
 // unit or no crew is left, and where the fuel is spent: then it counts as what it comes to at least.
-fn look(
-    words: &[u32],
-    l: Layout,
-    tables: &[u32; TABLES],
-    sums: &[u64; SUMS],
-    k: usize,
-    y: FreeNode,
-    low: FreeWeek,
-) -> Looked
-    requires { NodeDue words.now l tables.now sums.now k y }
-    ensures { Seen (problem_of words.now) tables.now k y low result }
+fn look(file: &File, tables: &[u32; TABLES], sums: &[u64; SUMS], k: usize, y: FreeNode, low: FreeWeek) -> Looked
+    requires { NodeDue file.now tables.now sums.now k y }
+    ensures { Seen (problem file.now) tables.now k y low result }
 {
     let caps = sum_at(sums, CAPS, k);
     if caps < y.need.0 {
         return Looked::Done(low);
     }
-    let value = bound(words, l, tables, sums, k, y);
+    let value = bound(file, tables, sums, k, y);
     if low.value.0 <= value.0 {
         return Looked::Done(low);
     }
@@ -277,23 +245,23 @@ fn look(
 }
 
 // The node with unit i staying.
-fn stay(words: &[u32], l: Layout, tables: &[u32; TABLES], i: usize, y: FreeNode) -> FreeNode
-    requires { StayDue words.now l tables.now i y }
-    ensures { Stays (problem_of words.now) tables.now i y result }
+fn stay(file: &File, tables: &[u32; TABLES], i: usize, y: FreeNode) -> FreeNode
+    requires { StayDue file.now tables.now i y }
+    ensures { Stays (problem file.now) tables.now i y result }
 {
-    let given = instance::capacity(words, l, y.week, i);
+    let given = file.capacity(y.week, i);
     let price = tables::price(tables, y.week, i);
     FreeNode {
-        need: y.need.less(given),
-        score: y.score.plus(price),
+        need: y.need.saturating_sub(given),
+        score: y.score + price,
         ..y
     }
 }
 
 // The node with unit i out.
-fn leave(words: &[u32], l: Layout, tables: &[u32; TABLES], i: usize, y: FreeNode) -> FreeNode
-    requires { FreeAt words.now l tables.now y.week × (i < l.units) × (0 < y.crews) }
-    ensures { Leaves (problem_of words.now) i y result }
+fn leave(file: &File, tables: &[u32; TABLES], i: usize, y: FreeNode) -> FreeNode
+    requires { FreeAt file.now tables.now y.week × (i < file.now.layout.units) × (0 < y.crews) }
+    ensures { Leaves (problem file.now) i y result }
 {
     let bar = sets::union(y.bar, tables::partners(tables, i));
     FreeNode {
@@ -308,17 +276,9 @@ fn leave(words: &[u32], l: Layout, tables: &[u32; TABLES], i: usize, y: FreeNode
 
 // The least so far, or less, after all choices in which unit i is out, as the highest that is still to be decided.
 #[cycle(try_out_walk)]
-fn try_out(
-    words: &[u32],
-    l: Layout,
-    tables: &[u32; TABLES],
-    sums: &[u64; SUMS],
-    i: usize,
-    y: FreeNode,
-    low: FreeWeek,
-) -> FreeWeek
-    requires { TryAt words.now l tables.now sums.now i y }
-    ensures { OutTried (problem_of words.now) tables.now i y low result }
+fn try_out(file: &File, tables: &[u32; TABLES], sums: &[u64; SUMS], i: usize, y: FreeNode, low: FreeWeek) -> FreeWeek
+    requires { TryAt file.now tables.now sums.now i y }
+    ensures { OutTried (problem file.now) tables.now i y low result }
 {
     if sets::has(y.bar, i) {
         return low;
@@ -327,46 +287,38 @@ fn try_out(
     if price.0 == 0 {
         return low;
     }
-    let z = leave(words, l, tables, i, y);
-    walk(words, l, tables, sums, i, z, low)
+    let z = leave(file, tables, i, y);
+    walk(file, tables, sums, i, z, low)
 }
 
 // The least so far, or less, after all choices for the units below k.
 #[cycle(try_out_walk)]
-fn walk(
-    words: &[u32],
-    l: Layout,
-    tables: &[u32; TABLES],
-    sums: &[u64; SUMS],
-    k: usize,
-    y: FreeNode,
-    low: FreeWeek,
-) -> FreeWeek
-    requires { NodeAt words.now l tables.now sums.now k y }
-    ensures { NodeDone (problem_of words.now) tables.now k y low result }
+fn walk(file: &File, tables: &[u32; TABLES], sums: &[u64; SUMS], k: usize, y: FreeNode, low: FreeWeek) -> FreeWeek
+    requires { NodeAt file.now tables.now sums.now k y }
+    ensures { NodeDone (problem file.now) tables.now k y low result }
 {
-    match look(words, l, tables, sums, k, y, low) {
+    match look(file, tables, sums, k, y, low) {
         Looked::Done(found) => found,
         Looked::Open(found) => {
             let i = k - 1;
-            let less = try_out(words, l, tables, sums, i, y, found);
-            let z = stay(words, l, tables, i, y);
-            walk(words, l, tables, sums, i, z, less)
+            let less = try_out(file, tables, sums, i, y, found);
+            let z = stay(file, tables, i, y);
+            walk(file, tables, sums, i, z, less)
         }
     }
 }
 
 // What the prices of the units not out of week t come to at least, whoever may be out; the set is advice.
-pub fn free_week(words: &[u32], l: Layout, tables: &[u32; TABLES], t: usize) -> FreeWeek
-    requires { FreeAt words.now l tables.now t }
-    ensures { WeekFree (problem_of words.now) (price_in tables.now) t result.value.0 × (result.value.0 ≤ NO_WEEK) }
+pub fn free_week(file: &File, tables: &[u32; TABLES], t: usize) -> FreeWeek
+    requires { FreeAt file.now tables.now t }
+    ensures { WeekFree (problem file.now) (price_in tables.now) t result.value.0 × (result.value.0 ≤ NO_WEEK) }
 {
-    let sums = sums_of(words, l, tables, t);
-    let root = root_node(words, l, t, &sums);
+    let sums = sums_of(file, tables, t);
+    let root = root_node(file, t, &sums);
     let low = FreeWeek {
         value: Euro(NO_WEEK),
         out: 0,
         fuel: FUEL,
     };
-    walk(words, l, tables, &sums, l.units, root, low)
+    walk(file, tables, &sums, file.layout.units, root, low)
 }

@@ -1,4 +1,6 @@
 -- what the accessors ask of words and layout
 pub mod Filed
+-- the problem that an accepted file means
+pub mod File
 -- the cost tables, and a week's row
 pub mod Tables

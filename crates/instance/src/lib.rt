@@ -1,5 +1,5 @@
-// A file's words seen as the problem they mean: where its sections begin, an accessor for each figure, and money and mass. A figure is an
-// equation with `problem_of` and says its range; tables and rows are parts of the words. Weeks, units and pairs count from 0.
+// A file's words seen as the problem they mean: where its sections begin, money and mass. `file` has the accepted file with a method for each
+// figure: start at `File`. Weeks, units and pairs count from 0.
 #![tactic(auto)]
 
 ghost use Rattle.std.specs.Prelude.{◌≡◌, ◌||◌, ℕ, ◌+◌, ◌-◌, ◌*◌, ◌<◌, ◌≤◌, ◌^◌, length};
@@ -11,53 +11,79 @@ ghost use Rattle.model.specs.Pairs.{joins, apart};
 ghost use Rattle.instance.specs.Filed.{Filed};
 ghost use Rattle.instance.specs.Tables.{maints_of, runnings_of, table_for, row_of};
 
+pub use file::File;
 use model::Layout;
+use std::ops::{Add, AddAssign};
+
+mod file;
 
 // Euros: what a cost is, and what sums over costs take and return.
-#[derive(Clone, Copy)]
+#[derive(Clone, Copy, PartialEq, Eq, PartialOrd, Ord)]
 pub struct Euro(pub u64);
 
 // Kilograms of dry matter: what a demand or a capacity is, and what sums over outputs take and return.
-#[derive(Clone, Copy)]
+#[derive(Clone, Copy, PartialEq, Eq, PartialOrd, Ord)]
 pub struct Kilo(pub u64);
 
-impl Euro {
-    // The sum of two amounts.
-    pub fn plus(self, other: Euro) -> Euro
-        requires { self.0 + other.0 < 2 ^ 64 }
-        ensures { result.0 ≡ self.0 + other.0 }
-    {
+impl Add for Euro {
+    type Output = Euro;
+
+    ghost can_add = { λ a b. a.0 + b.0 < 2 ^ 64 };
+
+    ghost add_gives = { λ a b r. r.0 ≡ a.0 + b.0 };
+
+    fn add(self, other: Euro) -> Euro {
         Euro(self.0 + other.0)
     }
+}
 
+impl AddAssign for Euro {
+    ghost can_add_assign = { λ a b. a.0 + b.0 < 2 ^ 64 };
+
+    ghost add_assign_gives = { λ a b r. r.0 ≡ a.0 + b.0 };
+
+    fn add_assign(&mut self, other: Euro) {
+        self.0 += other.0;
+    }
+}
+
+impl Euro {
     // What is left when another amount is taken off, 0 where that is more.
-    pub fn less(self, other: Euro) -> Euro
+    pub fn saturating_sub(self, other: Euro) -> Euro
         ensures { result.0 ≡ self.0 - other.0 }
     {
-        if self.0 < other.0 {
-            return Euro(0);
-        }
-        Euro(self.0 - other.0)
+        Euro(self.0.saturating_sub(other.0))
+    }
+}
+
+impl Add for Kilo {
+    type Output = Kilo;
+
+    ghost can_add = { λ a b. a.0 + b.0 < 2 ^ 64 };
+
+    ghost add_gives = { λ a b r. r.0 ≡ a.0 + b.0 };
+
+    fn add(self, other: Kilo) -> Kilo {
+        Kilo(self.0 + other.0)
+    }
+}
+
+impl AddAssign for Kilo {
+    ghost can_add_assign = { λ a b. a.0 + b.0 < 2 ^ 64 };
+
+    ghost add_assign_gives = { λ a b r. r.0 ≡ a.0 + b.0 };
+
+    fn add_assign(&mut self, other: Kilo) {
+        self.0 += other.0;
     }
 }
 
 impl Kilo {
-    // The sum of two weights.
-    pub fn plus(self, other: Kilo) -> Kilo
-        requires { self.0 + other.0 < 2 ^ 64 }
-        ensures { result.0 ≡ self.0 + other.0 }
-    {
-        Kilo(self.0 + other.0)
-    }
-
     // What is left when another weight is taken off, 0 where that is more.
-    pub fn less(self, other: Kilo) -> Kilo
+    pub fn saturating_sub(self, other: Kilo) -> Kilo
         ensures { result.0 ≡ self.0 - other.0 }
     {
-        if self.0 < other.0 {
-            return Kilo(0);
-        }
-        Kilo(self.0 - other.0)
+        Kilo(self.0.saturating_sub(other.0))
     }
 }
 
@@ -122,63 +148,6 @@ pub fn layout_of(words: &[u32]) -> Layout
     layout_for(w, u, n)
 }
 
-// M: how many overhauls may go on in one week.
-pub fn crews(words: &[u32], l: Layout) -> usize
-    requires { Filed words.now l }
-    ensures { (result ≡ (problem_of words.now).crews) × (1 ≤ result) × (result ≤ 16) }
-{
-    words::value_of(words[2])
-}
-
-// D: what week t wants.
-pub fn demand(words: &[u32], l: Layout, t: usize) -> Kilo
-    requires filed { Filed words.now l }
-    requires t_lt_weeks { t < l.weeks }
-    ensures { (result.0 ≡ (problem_of words.now).demand t) × (result.0 ≤ 16000000) }
-{
-    Kilo(words::value_of(words[3 + t]) as u64)
-}
-
-// k: what unit i gives in week t; a file has one figure for all weeks, so t is not read.
-pub fn capacity(words: &[u32], l: Layout, t: usize, i: usize) -> Kilo
-    requires filed { Filed words.now l }
-    requires i_lt_units { i < l.units }
-    ensures { (result.0 ≡ (problem_of words.now).capacity t i) × (result.0 ≤ 1000000) }
-{
-    let q = l.triples + 3 * i;
-    Kilo(words::value_of(words[q]) as u64)
-}
-
-// e: the earliest start of unit i, from 1.
-pub fn earliest(words: &[u32], l: Layout, i: usize) -> usize
-    requires filed { Filed words.now l }
-    requires i_lt_units { i < l.units }
-    ensures { (result ≡ (problem_of words.now).earliest i) × (1 ≤ result) × (result ≤ l.weeks) }
-{
-    let q = l.triples + 3 * i + 1;
-    words::value_of(words[q]) / 64
-}
-
-// l: its latest start.
-pub fn latest(words: &[u32], l: Layout, i: usize) -> usize
-    requires filed { Filed words.now l }
-    requires i_lt_units { i < l.units }
-    ensures { (result ≡ (problem_of words.now).latest i) × (1 ≤ result) × (result ≤ l.weeks) }
-{
-    let q = l.triples + 3 * i + 1;
-    words::value_of(words[q]) % 64
-}
-
-// d: the weeks that its overhaul takes.
-pub fn duration(words: &[u32], l: Layout, i: usize) -> usize
-    requires filed { Filed words.now l }
-    requires i_lt_units { i < l.units }
-    ensures { (result ≡ (problem_of words.now).duration i) × (1 ≤ result) × (result ≤ l.weeks) }
-{
-    let q = l.triples + 3 * i + 2;
-    words::value_of(words[q])
-}
-
 // The place of week t and unit i in a table of costs.
 pub fn cell_place(l: Layout, t: usize, i: usize) -> usize
     requires units_bound { l.weeks * l.units ≤ 832 }
@@ -186,112 +155,6 @@ pub fn cell_place(l: Layout, t: usize, i: usize) -> usize
     ensures { (result ≡ t * l.units + i) × (result < l.weeks * l.units) }
 {
     t * l.units + i
-}
-
-// m: what maintaining unit i costs in week t.
-pub fn maint_cost(words: &[u32], l: Layout, t: usize, i: usize) -> Euro
-    requires filed { Filed words.now l }
-    requires t_lt_weeks { (t < l.weeks) × (i < l.units) }
-    ensures { (result.0 ≡ (problem_of words.now).maint t i) × (result.0 ≤ 250000) }
-{
-    let q = l.maints + cell_place(l, t, i);
-    Euro(words::value_of(words[q]) as u64)
-}
-
-// c: what running unit i costs in week t.
-pub fn running_cost(words: &[u32], l: Layout, t: usize, i: usize) -> Euro
-    requires filed { Filed words.now l }
-    requires t_lt_weeks { (t < l.weeks) × (i < l.units) }
-    ensures { (result.0 ≡ (problem_of words.now).running t i) × (result.0 ≤ 250000) }
-{
-    let q = l.runnings + cell_place(l, t, i);
-    Euro(words::value_of(words[q]) as u64)
-}
-
-// What keeping unit i warm costs where it is OFF in week t: 0 where the file has no OFF costs (D89).
-pub fn off_cost(words: &[u32], l: Layout, t: usize, i: usize) -> Euro
-    requires filed { Filed words.now l }
-    requires t_lt_weeks { (t < l.weeks) × (i < l.units) }
-    ensures { (result.0 ≡ (problem_of words.now).off t i) × (result.0 ≤ 250000) }
-{
-    if l.pairs <= l.offs {
-        return Euro(0);
-    }
-    let q = l.offs + cell_place(l, t, i);
-    Euro(words::value_of(words[q]) as u64)
-}
-
-// What unit i adds to the output of a run in week t.
-fn output_part(words: &[u32], l: Layout, t: usize, run: u32, i: usize) -> Kilo
-    requires filed { Filed words.now l }
-    requires i_lt_units { i < l.units }
-    ensures { (result.0 ≡ only_in (has run) ((problem_of words.now).capacity t) i) × (result.0 ≤ 1000000) }
-{
-    if sets::has(run, i) {
-        return capacity(words, l, t, i);
-    }
-    Kilo(0)
-}
-
-// What a run gives in week t.
-pub fn run_output(words: &[u32], l: Layout, t: usize, run: u32) -> Kilo
-    requires { Filed words.now l }
-    ensures { (result.0 ≡ output (problem_of words.now) t (has run)) × (result.0 ≤ 16000000) }
-{
-    let units = l.units;
-    let mut sum = Kilo(0);
-    for i in 0..units {
-        let more = output_part(words, l, t, run, i);
-        sum = sum.plus(more);
-    }
-    sum
-}
-
-// What unit i would cost OFF in week t, where it is out.
-fn off_part(words: &[u32], l: Layout, t: usize, out: u32, i: usize) -> Euro
-    requires filed { Filed words.now l }
-    requires t_lt_weeks { (t < l.weeks) × (i < l.units) }
-    ensures { (result.0 ≡ only_in (has out) ((problem_of words.now).off t) i) × (result.0 ≤ 250000) }
-{
-    if sets::has(out, i) {
-        return off_cost(words, l, t, i);
-    }
-    Euro(0)
-}
-
-// What the units out would cost OFF in week t.
-pub fn off_sum(words: &[u32], l: Layout, t: usize, out: u32) -> Euro
-    requires filed { Filed words.now l }
-    requires t_lt_weeks { t < l.weeks }
-    ensures { (result.0 ≡ off_cost (problem_of words.now) t (has out)) × (result.0 ≤ 4000000) }
-{
-    let units = l.units;
-    let mut sum = Euro(0);
-    for i in 0..units {
-        let more = off_part(words, l, t, out, i);
-        sum = sum.plus(more);
-    }
-    sum
-}
-
-// The table of maintenance costs.
-pub fn maint_table(words: &[u32], l: Layout) -> &[u32]
-    requires { Filed words.now l }
-    ensures { result.now ≡ maints_of l words.now }
-{
-    let from = l.maints;
-    let to = l.runnings;
-    &words[from..to]
-}
-
-// The table of running costs.
-pub fn running_table(words: &[u32], l: Layout) -> &[u32]
-    requires { Filed words.now l }
-    ensures { result.now ≡ runnings_of l words.now }
-{
-    let from = l.runnings;
-    let to = l.offs;
-    &words[from..to]
 }
 
 // The week's row of the table that a cell's state names, a word for each of u units: maintenance costs for MAINT, running costs for ON. OFF
@@ -312,70 +175,4 @@ pub fn cost_row<'a>(
         return &maints[from..from + u];
     }
     &runnings[from..from + u]
-}
-
-// N: how many excluded pairs there are.
-pub fn pairs(words: &[u32], l: Layout) -> usize
-    requires { Filed words.now l }
-    ensures { (result ≡ (problem_of words.now).pairs) × (result ≤ 120) }
-{
-    words.len() - (l.pairs + 1)
-}
-
-// The value of pair n's word: its lower unit times 32 and its higher unit, both from 1.
-fn pair_value(words: &[u32], l: Layout, n: usize) -> usize
-    requires filed { Filed words.now l }
-    requires n_bound { n < (problem_of words.now).pairs }
-    ensures { result ≡ value_at words.now (l.pairs + n) }
-{
-    let q = l.pairs + n;
-    words::value_of(words[q])
-}
-
-// The lower unit of pair n.
-pub fn pair_a(words: &[u32], l: Layout, n: usize) -> usize
-    requires filed { Filed words.now l }
-    requires n_bound { n < (problem_of words.now).pairs }
-    ensures { (result ≡ (problem_of words.now).pair_a n) × (result < l.units) }
-{
-    pair_value(words, l, n) / 32 - 1
-}
-
-// The higher unit of pair n.
-pub fn pair_b(words: &[u32], l: Layout, n: usize) -> usize
-    requires filed { Filed words.now l }
-    requires n_bound { n < (problem_of words.now).pairs }
-    ensures { (result ≡ (problem_of words.now).pair_b n) × (result < l.units) }
-{
-    pair_value(words, l, n) % 32 - 1
-}
-
-// What pair n adds to the partners of unit i found so far.
-fn partner_added(words: &[u32], l: Layout, i: usize, n: usize, found: u32) -> u32
-    requires filed { Filed words.now l }
-    requires n_bound { n < (problem_of words.now).pairs }
-    ensures { (j : ℕ) → has result j ≡ (has found j || joins (problem_of words.now) i j n) }
-{
-    let a = pair_a(words, l, n);
-    let b = pair_b(words, l, n);
-    if a == i {
-        return sets::with(found, b);
-    }
-    if b == i {
-        return sets::with(found, a);
-    }
-    found
-}
-
-// The units that form an excluded pair with unit i, as a set (D37).
-pub fn partners(words: &[u32], l: Layout, i: usize) -> u32
-    requires { Filed words.now l }
-    ensures { (j : ℕ) → has result j ≡ apart (problem_of words.now) i j }
-{
-    let count = pairs(words, l);
-    let mut found = 0;
-    for n in 0..count {
-        found = partner_added(words, l, i, n, found);
-    }
-    found
 }

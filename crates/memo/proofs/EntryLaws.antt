@@ -8,17 +8,15 @@ use native.Mathlib.Decide.{ℕ_discrete}
 use native.Mathlib.Omega.{arith}
 use lib.ListN.{get_or, set, length, replicate, length-set}
 use lib.Seq.{get_or-set_same, get_or-set_other}
+use Rattle.std.specs.Prelude.{Option, Some}
 use Rattle.sums.specs.NumSet.{has}
 use Rattle.sums.proofs.LoopLaws.{zeros_at}
-use Rattle.model.specs.declared.Layout.{Layout}
 use Rattle.model.specs.Problem.{Problem}
-use Rattle.model.specs.Words.{problem_of}
 use Rattle.model.specs.Commitment.{full_least, NO_RUN}
 use Rattle.sets.specs.Sets.{SETS}
-use Rattle.instance.specs.Filed.{Filed}
+use Rattle.instance.specs.declared.file.File.{File}
+use Rattle.instance.specs.File.{problem}
 use Rattle.commitment.proofs.ScoreLaws.{least_small}
-use Rattle.memo.specs.declared.Stored.{Stored}
-use Rattle.memo.specs.declared.Stored.TheVariants.{Word}
 use Rattle.memo.specs.Memo.{Entry, Present, Looked, Wrote, OTHERS, Others, key_of, Right}
 
 -- ---- an emptied memo
@@ -38,19 +36,19 @@ right_empty p memo n is = record { holds = λ e t out b l z. absurd (omega (arit
 pub looked_hit : (memo : List ℕ) (e key : ℕ) → get_or memo (e * 2) 0 ≡ key → Present memo key (get_or memo (e * 2 + 1) 0)
 looked_hit memo e key k = record { at = e; entry = record { under = k; kept = refl } }
 
-module _ (ws memo : List ℕ) (l : Layout) (t out key v : ℕ) (found : Stored) (f : Filed ws l) (h : t < l.weeks) (b : out < SETS)
-    (k : key ≡ key_of t out) (m : Right (problem_of ws) memo) (looked : Looked memo key found) (is : found ≡ Word v) where
+module _ (file : File) (memo : List ℕ) (t out key v : ℕ) (found : Option ℕ) (h : t < file.layout.weeks) (b : out < SETS)
+    (k : key ≡ key_of t out) (m : Right (problem file) memo) (looked : Looked memo key found) (is : found ≡ Some v) where
   present : Present memo key v
   present = subst (Looked memo key) is looked
 
   -- what is found under a week's key is its least cost
-  pub found_cost : v ≡ full_least (problem_of ws) t (has out)
+  pub found_cost : v ≡ full_least (problem file) t (has out)
   found_cost =
-      sym present.entry.kept ∙ m.holds present.at t out (omega (arith, f.weeks_most)) b (present.entry.under ∙ k)
+      sym present.entry.kept ∙ m.holds present.at t out (omega (arith, file.filed.weeks_most)) b (present.entry.under ∙ k)
 
   -- which is no more than what stands for none
   pub found_small : v ≤ NO_RUN
-  found_small = omega (arith, found_cost, least_small ws l t f h (has out))
+  found_small = omega (arith, found_cost, least_small file t h (has out))
 
 -- ---- a word written
 
@@ -142,7 +140,7 @@ others_kept memo memo' key v wrote small = record { same = λ e h. by e h (wrote
     by e h (inr new) = absurd (omega (arith, new.under))
 
 -- as a week's key is
-pub others_put : (ws memo memo' : List ℕ) (l : Layout) (t out key v : ℕ) → Filed ws l → t < l.weeks → out < SETS → key ≡ key_of t out
+pub others_put : (file : File) (memo memo' : List ℕ) (t out key v : ℕ) → t < file.layout.weeks → out < SETS → key ≡ key_of t out
     → Wrote memo memo' key v → Others memo memo'
 unfolding key_of
-others_put ws memo memo' l t out key v f h b k wrote = others_kept memo memo' key v wrote (omega (arith, f.weeks_most))
+others_put file memo memo' t out key v h b k wrote = others_kept memo memo' key v wrote (omega (arith, file.filed.weeks_most))

@@ -1,13 +1,11 @@
 -- A memo of numbers in lent words: words taken in twos, each two an entry, a key and what is kept under it. What weeks' cheapest runs cost is kept
 -- under the small keys; the keys from OTHERS on are another's.
 -- Assumes nothing.
-use Rattle.std.specs.Prelude.{ℕ, ◌+◌, ◌*◌, ◌≤◌, ◌<◌, ◌≡◌, List, ◌⊎◌, get_or}
+use Rattle.std.specs.Prelude.{ℕ, ◌+◌, ◌*◌, ◌≤◌, ◌<◌, ◌≡◌, List, ◌⊎◌, get_or, Option, Some, None}
 use Rattle.sums.specs.NumSet.{has}
 use Rattle.model.specs.Problem.{Problem}
 use Rattle.model.specs.Commitment.{full_least}
 use Rattle.sets.specs.Sets.{SETS}
-use Rattle.memo.specs.declared.Stored.{Stored}
-use Rattle.memo.specs.declared.Stored.TheVariants.{Nothing, Word}
 
 -- entry e has this key, and v is kept under it; past the end all words count as 0
 pub record Entry (memo : List ℕ) (e key v : ℕ) : Type 0 where
@@ -20,9 +18,9 @@ pub record Present (memo : List ℕ) (key v : ℕ) : Type 0 where
   pub entry : Entry memo at key v
 
 -- what is found under a key, if anything is
-abbrev pub Looked : List ℕ → ℕ → Stored → Type 0
-Looked memo key Nothing = Unit {0}
-Looked memo key (Word v) = Present memo key v
+abbrev pub Looked : List ℕ → ℕ → Option ℕ → Type 0
+Looked memo key None = Unit {0}
+Looked memo key (Some v) = Present memo key v
 
 -- each entry of the second memo is that of the first, or has this key and v
 pub record Wrote (memo memo' : List ℕ) (key v : ℕ) : Type 0 where

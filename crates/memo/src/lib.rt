@@ -5,14 +5,13 @@
 
 ghost use Rattle.std.specs.Prelude.{◌≡◌, ◌+◌, ◌*◌, ◌<◌, ◌≤◌, length, replicate};
 ghost use Rattle.sums.specs.NumSet.{has};
-ghost use Rattle.model.specs.Words.{problem_of};
 ghost use Rattle.model.specs.Commitment.{least_cost, full_least, NO_RUN};
 ghost use Rattle.sets.specs.Sets.{SETS};
-ghost use Rattle.instance.specs.Filed.{Filed};
 ghost use Rattle.memo.specs.Memo.{Looked, Wrote, Others, key_of, Right};
+ghost use Rattle.instance.specs.File.{problem};
 
-use instance::Euro;
-use model::{Layout, NO_RUN};
+use instance::{Euro, File};
+use model::NO_RUN;
 use sets::SETS;
 
 // 2^22: the first key that is another's.
@@ -48,25 +47,18 @@ fn slot(key: u32, entries: usize) -> usize
 }
 
 // What the memo has under a key, if it has the key.
-#[derive(Clone, Copy)]
-pub enum Stored {
-    Nothing,
-    Word(u32),
-}
-
-// Looks a key up.
-pub fn lookup(memo: &[u32], key: u32) -> Stored
+pub fn lookup(memo: &[u32], key: u32) -> Option<u32>
     ensures { Looked memo.now key result }
 {
     let entries = memo.len() / 2;
     if entries == 0 {
-        return Stored::Nothing;
+        return None;
     }
     let at = slot(key, entries) * 2;
     if memo[at] == key {
-        return Stored::Word(memo[at + 1]);
+        return Some(memo[at + 1]);
     }
-    Stored::Nothing
+    None
 }
 
 // Keeps a word under a key, in place of what stood where the key belongs.
@@ -83,38 +75,35 @@ pub fn keep(memo: &mut [u32], key: u32, word: u32)
 
 // What the cheapest run of week t costs with OFF charged to the units out too, NO_RUN where there is none: from the memo, or computed and kept
 // there (D50).
-pub fn full_least(words: &[u32], l: Layout, t: usize, out: u32, memo: &mut [u32]) -> Euro
-    requires filed { Filed words.now l }
-    requires t_lt_weeks { t < l.weeks }
-    requires right_2 { Right (problem_of words.now) memo.old }
-    ensures answer { (result.0 ≡ full_least (problem_of words.now) t (has out)) × (result.0 ≤ NO_RUN) }
-    ensures right { Right (problem_of words.now) memo.new × Others memo.old memo.new }
+pub fn full_least(file: &File, t: usize, out: u32, memo: &mut [u32]) -> Euro
+    requires t_lt_weeks { t < file.now.layout.weeks }
+    requires right_2 { Right (problem file.now) memo.old }
+    ensures answer { (result.0 ≡ full_least (problem file.now) t (has out)) × (result.0 ≤ NO_RUN) }
+    ensures right { Right (problem file.now) memo.new × Others memo.old memo.new }
 {
     if SETS <= out {
-        return commitment::full_least(words, l, t, out);
+        return commitment::full_least(file, t, out);
     }
     let key = key_of(t, out);
-    let found = lookup(memo, key);
-    if let Stored::Word(word) = found {
+    if let Some(word) = lookup(memo, key) {
         return Euro(word as u64);
     }
-    let cost = commitment::full_least(words, l, t, out);
+    let cost = commitment::full_least(file, t, out);
     keep(memo, key, cost.0 as u32);
     cost
 }
 
 // What the cheapest run of week t costs with these units out, NO_RUN where there is none: without what the units out would cost OFF.
-pub fn least_cost(words: &[u32], l: Layout, t: usize, out: u32, memo: &mut [u32]) -> Euro
-    requires filed { Filed words.now l }
-    requires t_lt_weeks { t < l.weeks }
-    requires right_2 { Right (problem_of words.now) memo.old }
-    ensures answer { (result.0 ≡ least_cost (problem_of words.now) t (has out)) × (result.0 ≤ NO_RUN) }
-    ensures right { Right (problem_of words.now) memo.new × Others memo.old memo.new }
+pub fn least_cost(file: &File, t: usize, out: u32, memo: &mut [u32]) -> Euro
+    requires t_lt_weeks { t < file.now.layout.weeks }
+    requires right_2 { Right (problem file.now) memo.old }
+    ensures answer { (result.0 ≡ least_cost (problem file.now) t (has out)) × (result.0 ≤ NO_RUN) }
+    ensures right { Right (problem file.now) memo.new × Others memo.old memo.new }
 {
-    let full = full_least(words, l, t, out, memo);
+    let full = full_least(file, t, out, memo);
     // It stands for no run, whoever is charged.
     if NO_RUN <= full.0 {
         return full;
     }
-    full.less(instance::off_sum(words, l, t, out))
+    full.saturating_sub(file.off_sum(t, out))
 }

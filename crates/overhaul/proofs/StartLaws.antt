@@ -3,7 +3,6 @@
 use Prim.Native.Nat.{ℕ, zero, suc, ◌+◌, ◌-◌, ◌≤◌, ◌<◌, min}
 use mathlib.Core.Path.{◌≡◌, sym, ◌∙◌}
 use mathlib.Core.Bool.{true, ◌&&◌}
-use mathlib.Core.List.{List}
 use native.Mathlib.Decide.{dec_le}
 use native.Mathlib.Omega.{arith}
 use lib.Dec.{leb}
@@ -11,11 +10,11 @@ use borrow.Author.Tests.{leb-true, le-leb, lt-leb}
 use Rattle.sums.specs.Logic.{if}
 use Rattle.sums.specs.Range.{count_to}
 use Rattle.sums.proofs.LogicLaws.{and_of, and_left, and_right, and_last_false, same_test}
-use Rattle.model.specs.declared.Layout.{Layout}
 use Rattle.model.specs.Problem.{Problem}
-use Rattle.model.specs.Words.{problem_of}
 use Rattle.model.specs.Domain.{permitted, starts_below, start_count}
 use Rattle.model.proofs.DomainLaws.{permits_from, permits_to, permits_ends, permits_of}
+use Rattle.instance.specs.declared.file.File.{File}
+use Rattle.instance.specs.File.{problem}
 use Rattle.instance.specs.Filed.{Filed}
 use Rattle.overhaul.specs.Range.{last_start, StartRange}
 
@@ -30,19 +29,19 @@ range_of p i b h e s =
     let m = leb-true s b (and_right (leb a s) (leb s b) t) in
     permits_of p i s (leb-true a s (and_left (leb a s) (leb s b) t)) (omega arith) (omega arith))
 
-module _ (ws : List ℕ) (l : Layout) (i a b d last : ℕ) where
+module _ (file : File) (i a b d last : ℕ) where
   -- of a file's problem, by its figures as they are read
-  pub starts_range : Filed ws l → a ≡ (problem_of ws).earliest i → b ≡ (problem_of ws).latest i → d ≡ (problem_of ws).duration i → d ≤ l.weeks
-      → last ≡ min b (l.weeks - d + 1) → StartRange (problem_of ws) i a last
+  pub starts_range : Filed file.words.now file.layout → a ≡ (problem file).earliest i → b ≡ (problem file).latest i → d ≡ (problem file).duration i → d ≤ file.layout.weeks
+      → last ≡ min b (file.layout.weeks - d + 1) → StartRange (problem file) i a last
   starts_range f ea eb ed h e = record {
-    exact = rw ea (range_of (problem_of ws) i last (rw (f.weeks_are, ← ed) h) (rw (f.weeks_are, ← eb, ← ed) e));
+    exact = rw ea (range_of (problem file) i last (rw (f.weeks_are, ← ed) h) (rw (f.weeks_are, ← eb, ← ed) e));
   }
 
 -- the last of them
-pub last_is : (ws : List ℕ) (l : Layout) (i b d last : ℕ) → Filed ws l → b ≡ (problem_of ws).latest i → d ≡ (problem_of ws).duration i
-    → last ≡ min b (l.weeks - d + 1) → last ≡ last_start (problem_of ws) i
+pub last_is : (file : File) (i b d last : ℕ) → b ≡ (problem file).latest i → d ≡ (problem file).duration i
+    → last ≡ min b (file.layout.weeks - d + 1) → last ≡ last_start (problem file) i
 unfolding last_start
-last_is ws l i b d last f eb ed e = rw (f.weeks_are, ← eb, ← ed) e
+last_is file i b d last eb ed e = rw (file.filed.weeks_are, ← eb, ← ed) e
 
 -- none lies after the season
 pub last_within : (w b c last : ℕ) → last ≡ min b c → b ≤ w → last ≤ w

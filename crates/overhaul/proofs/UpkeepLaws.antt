@@ -7,13 +7,13 @@ use mathlib.Core.List.{List}
 use native.Mathlib.Omega.{arith}
 use Rattle.sums.specs.Sum.{sum_to, shifted, transposed}
 use Rattle.sums.proofs.LoopLaws.{sum_next, sum_ended}
-use Rattle.model.specs.declared.Layout.{Layout}
 use Rattle.model.specs.Words.{problem_of}
 use Rattle.model.specs.Domain.{permitted}
 use Rattle.model.specs.Plan.{upkeep}
 use Rattle.model.proofs.DomainLaws.{permits_from, permits_ends}
 use Rattle.model.proofs.FileLaws.{fair}
-use Rattle.instance.specs.Filed.{Filed}
+use Rattle.instance.specs.declared.file.File.{File}
+use Rattle.instance.specs.File.{problem}
 use Rattle.overhaul.proofs.SpanLaws.{span_sum_lem}
 
 -- one more week
@@ -22,23 +22,23 @@ pub upkeep_next : (ws : List ℕ) (i a k s v r : ℕ) → s ≡ sum_to k (shifte
 unfolding shifted transposed
 upkeep_next ws i a k s v r = sum_next (shifted a (transposed (problem_of ws).maint i)) k s v r
 
-module _ (ws : List ℕ) (l : Layout) (i start : ℕ) (f : Filed ws l) (h : i < l.units) (e : permitted (problem_of ws) i start ≡ true) where
+module _ (file : File) (i start : ℕ) (h : i < file.layout.units) (e : permitted (problem file) i start ≡ true) where
   -- starts count from 1
   pub start_some : 1 ≤ start
   start_some =
-      let u : i < (problem_of ws).units = rw f.units_are h in
-      omega (arith, permits_from (problem_of ws) i start e, (fair ws f.passed).from_one i u)
+      let u : i < (problem file).units = rw file.filed.units_are h in
+      omega (arith, permits_from (problem file) i start e, (fair file.words.now file.filed.passed).from_one i u)
 
   -- the overhaul ends in the season
-  pub ends_within : (d : ℕ) → d ≡ (problem_of ws).duration i → start - 1 + d ≤ l.weeks
-  ends_within d is = omega (arith, start_some, permits_ends (problem_of ws) i start e)
+  pub ends_within : (d : ℕ) → d ≡ (problem file).duration i → start - 1 + d ≤ file.layout.weeks
+  ends_within d is = omega (arith, start_some, permits_ends (problem file) i start e)
 
   -- all its weeks
-  pub upkeep_ended : (k d r : ℕ) → d ≡ (problem_of ws).duration i → k ≤ d → d ≤ k
-      → r ≡ sum_to k (shifted (start - 1) (transposed (problem_of ws).maint i)) → r ≡ upkeep (problem_of ws) i start
+  pub upkeep_ended : (k d r : ℕ) → d ≡ (problem file).duration i → k ≤ d → d ≤ k
+      → r ≡ sum_to k (shifted (start - 1) (transposed (problem file).maint i)) → r ≡ upkeep (problem file) i start
   unfolding upkeep
   upkeep_ended k d r is m n t =
-      let p = problem_of ws in
+      let p = problem file in
       let s : start ≡ suc (start - 1) = omega (arith, start_some) in
       let b : start - 1 + p.duration i ≤ p.weeks = omega (arith, ends_within d is) in
       sum_ended (shifted (start - 1) (transposed p.maint i)) k d r t m n

@@ -14,16 +14,15 @@ use Rattle.sums.specs.Range.{some_to, list_to}
 use Rattle.sums.proofs.LogicLaws.{true_false}
 use Rattle.lent.specs.Splice.{spliced}
 use Rattle.lent.proofs.SpliceLaws.{splice_behind}
-use Rattle.model.specs.declared.Layout.{Layout}
 use Rattle.model.specs.Problem.{Problem}
-use Rattle.model.specs.Words.{problem_of}
 use Rattle.model.specs.Refusal.{block_size}
 use Rattle.model.specs.Nogood.{Nogood}
 use Rattle.model.specs.Answer.{Answer, Correct, block_of, blocks_of}
 use Rattle.model.specs.Asks.{ask_count, ceiling_at, budget_at, answer_at, Follows, settles, settled, Leaves, left_at, Answered}
 use Rattle.model.proofs.AnswerLaws.{blocks_append}
 use Rattle.model.proofs.AskLaws.{answer_old, answer_new, settles_old, settled_old, left_old, left_new, left_append, blocks_length}
-use Rattle.instance.specs.Filed.{Filed}
+use Rattle.instance.specs.declared.file.File.{File}
+use Rattle.instance.specs.File.{problem}
 use Rattle.nogood.specs.Stock.{Stock, Grown}
 use Rattle.nogood.proofs.StockLaws.{stock_none}
 use Rattle.search.specs.declared.Reply.{Reply}
@@ -159,37 +158,37 @@ module _ (p : Problem) (asks lent answers table : List ℕ) (m : Carry) (k : ℕ
         settled_by_lem = settled_more;
       }
 
-module _ (ws asks : List ℕ) (l : Layout) (k lent room : ℕ) (ok : Admitted ws l asks lent room) (less : k < ask_count asks) where
+module _ (file : File) (asks : List ℕ) (k lent room : ℕ) (ok : Admitted file.words.now file.layout asks lent room) (less : k < ask_count asks) where
   -- there is room for its block
-  pub ask_placed : Placed l k room
+  pub ask_placed : Placed file.layout k room
   ask_placed =
-      let size = shape.block_size l.units l.weeks in
+      let size = shape.block_size file.layout.units file.layout.weeks in
       let upto : k + 1 ≤ ask_count asks = omega arith in
       let all : (k + 1) * size ≤ ask_count asks * size = mul-le-mul_right size upto in
       record {
-        units = ok.filed.units_most;
-        weeks = ok.filed.weeks_most;
+        units = file.filed.units_most;
+        weeks = file.filed.weeks_most;
         few = omega (arith, ok.few);
         room = omega (arith, all, ok.room, add-mul k 1 size, one-mul size);
       }
 
 -- answered in its block
-pub transposed : (ws asks : List ℕ) (l : Layout) (k : ℕ) → Filed ws l → (answers answers' table table' : List ℕ) (m m' : Carry) (r : Reply)
-    → Replied (problem_of ws) (ceiling_at asks k) (budget_at asks k) m table table' r → answers' ≡ put_at l k r answers
-    → Remembered m (ceiling_at asks k) r m' → Turned (problem_of ws) asks answers table m k answers' table' m'
+pub transposed : (file : File) (asks : List ℕ) (k : ℕ) → (answers answers' table table' : List ℕ) (m m' : Carry) (r : Reply)
+    → Replied (problem file) (ceiling_at asks k) (budget_at asks k) m table table' r → answers' ≡ put_at file.layout k r answers
+    → Remembered m (ceiling_at asks k) r m' → Turned (problem file) asks answers table m k answers' table' m'
 unfolding block_size put_at
-transposed ws asks l k f answers answers' table table' m m' r replied put kept = record {
+transposed file asks k answers answers' table table' m m' r replied put kept = record {
   next = λ start going.
       going_next p asks start answers table m k going table' r replied m' kept (k * block_size p) answers' (place start going) words;
 }
   where
     p : Problem
-    p = problem_of ws
+    p = problem file
 
     words : answers' ≡ spliced (k * block_size p) (block_of p (answer_of p r)) answers
     words =
         put
-        ∙ ap₂ (λ (u w : ℕ). spliced (k * shape.block_size u w) (list_to (shape.block_size u w) (block_word u w r)) answers) (sym f.units_are) (sym f.weeks_are)
+        ∙ ap₂ (λ (u w : ℕ). spliced (k * shape.block_size u w) (list_to (shape.block_size u w) (block_word u w r)) answers) (sym file.filed.units_are) (sym file.filed.weeks_are)
         ∙ ap (λ (bs : List ℕ). spliced (k * block_size p) bs answers) (block_listed p (ceiling_at asks k) (budget_at asks k) r replied.correct)
 
     place : (start : List ℕ) (going : Going p asks start answers table m k) → k * block_size p ≡ length (blocks_of p going.told)
@@ -257,8 +256,8 @@ going_answered p asks lent answers table m k n h l g e =
 -- ---- the lent words keep their lengths
 
 -- what a run has that was not turned away, it has all along
-pub admitted_still : (ws : List ℕ) (l : Layout) (asks : List ℕ) (t n t' n' : ℕ) → Admitted ws l asks t n → t' ≡ t → n' ≡ n → Admitted ws l asks t' n'
-admitted_still ws l asks t n t' n' h e f = record { filed = h.filed; few = h.few; long = omega (arith, h.long); room = omega (arith, h.room) }
+pub admitted_still : (file : File) (asks : List ℕ) (t n t' n' : ℕ) → Admitted file.words.now file.layout asks t n → t' ≡ t → n' ≡ n → Admitted file.words.now file.layout asks t' n'
+admitted_still file asks t n t' n' h e f = record { few = h.few; long = omega (arith, h.long); room = omega (arith, h.room) }
 
 -- an emptied list is as long as it was
 cleared_long : (w d : List ℕ) → w ≡ replicate (length d) 0 → length w ≡ length d
@@ -269,9 +268,9 @@ pub cleared_all : (w d : List ℕ) → w ≡ replicate (length d) 0 → w ≡ re
 cleared_all w d e = e ∙ ap (λ (n : ℕ). replicate n 0) (sym (cleared_long w d e))
 
 -- a run is admitted with it still
-pub cleared_admitted : (ws : List ℕ) (l : Layout) (asks w d : List ℕ) (n : ℕ) → Admitted ws l asks (length d) n → w ≡ replicate (length d) 0
-    → Admitted ws l asks (length w) n
-cleared_admitted ws l asks w d n ok e = admitted_still ws l asks (length d) n (length w) n ok (cleared_long w d e) refl
+pub cleared_admitted : (file : File) (asks w d : List ℕ) (n : ℕ) → Admitted file.words.now file.layout asks (length d) n → w ≡ replicate (length d) 0
+    → Admitted file.words.now file.layout asks (length w) n
+cleared_admitted file asks w d n ok e = admitted_still file asks (length d) n (length w) n ok (cleared_long w d e) refl
 
 -- and what keeps its length has the old one
 pub cleared_kept : (v w d : List ℕ) → w ≡ replicate (length d) 0 → length v ≡ length w → length v ≡ length d

@@ -3,19 +3,18 @@
 #![tactic(auto)]
 
 ghost use Rattle.std.specs.Prelude.{◌≡◌, ◌+◌, ◌<◌, length, replicate};
-ghost use Rattle.model.specs.Words.{problem_of};
 ghost use Rattle.model.specs.Asks.{Answered, Ran};
 ghost use Rattle.decoder.specs.Answers.{verdict_of};
-ghost use Rattle.instance.specs.Filed.{Filed};
 ghost use Rattle.tables.specs.Tables.{TABLES, First};
 ghost use Rattle.walk.specs.Walk.{Walking};
 ghost use Rattle.asks.specs.Admitted.{Admitted};
 ghost use Rattle.planner.specs.Carry.{SaysNothing, SaysNone, with_used, Remembered};
 ghost use Rattle.planner.specs.Due.{OpenDue, ReplyDue, Told, PutDue, TurnPut, StartDue};
+ghost use Rattle.instance.specs.File.{problem};
 
 use decoder::Refusal;
 use farkas::Findings;
-use instance::Euro;
+use instance::{Euro, File};
 use model::Layout;
 use search::{Ask, Reply};
 use state::{State, Walked};
@@ -72,40 +71,22 @@ fn repeat_plan(plan: Reply, used: usize) -> Reply
 // ---- one ask
 
 // What a search tells the ask whose turn it is.
-fn reply_searched(
-    words: &[u32],
-    l: Layout,
-    tables: &[u32; TABLES],
-    asks: &[u32],
-    turn: AskTurn,
-    free: &mut Findings,
-    table: &mut [u32],
-    scratch: &mut [u32],
-) -> Reply
-    requires { OpenDue words.now l tables.now asks.now turn.ask turn.carry free.old.shown table.old scratch.old }
-    ensures { Told words.now l tables.now asks.now turn.ask turn.carry table.old table.new
+fn reply_searched(file: &File, tables: &[u32; TABLES], asks: &[u32], turn: AskTurn, free: &mut Findings, table: &mut [u32], scratch: &mut [u32]) -> Reply
+    requires { OpenDue file.now tables.now asks.now turn.ask turn.carry free.old.shown table.old scratch.old }
+    ensures { Told file.now tables.now asks.now turn.ask turn.carry table.old table.new
         scratch.new result free.new.shown }
 {
     let ask = Ask {
         ceiling: asks::ceiling(asks, turn.ask),
         budget: asks::budget(asks, turn.ask),
     };
-    search::solve(words, l, tables, ask, free, table, turn.carry.used, scratch)
+    search::solve(file, tables, ask, free, table, turn.carry.used, scratch)
 }
 
 // What the ask is told whose turn it is: at once where the carry settles it, else by a search (D66).
-fn reply(
-    words: &[u32],
-    l: Layout,
-    tables: &[u32; TABLES],
-    asks: &[u32],
-    turn: AskTurn,
-    free: &mut Findings,
-    table: &mut [u32],
-    scratch: &mut [u32],
-) -> Reply
-    requires { ReplyDue words.now l tables.now asks.now turn.ask turn.carry free.old.shown table.old scratch.old }
-    ensures { Told words.now l tables.now asks.now turn.ask turn.carry table.old table.new
+fn reply(file: &File, tables: &[u32; TABLES], asks: &[u32], turn: AskTurn, free: &mut Findings, table: &mut [u32], scratch: &mut [u32]) -> Reply
+    requires { ReplyDue file.now tables.now asks.now turn.ask turn.carry free.old.shown table.old scratch.old }
+    ensures { Told file.now tables.now asks.now turn.ask turn.carry table.old table.new
         scratch.new result free.new.shown }
 {
     let m = turn.carry;
@@ -115,7 +96,7 @@ fn reply(
     }
     match m.plan {
         Some(plan) => repeat_plan(plan, m.used),
-        None => reply_searched(words, l, tables, asks, turn, free, table, scratch),
+        None => reply_searched(file, tables, asks, turn, free, table, scratch),
     }
 }
 
@@ -162,18 +143,9 @@ fn empty_carry() -> Carry
 }
 
 // Every ask of a run in turn.
-fn answer_each(
-    words: &[u32],
-    l: Layout,
-    tables: &[u32; TABLES],
-    asks: &[u32],
-    free: &mut Findings,
-    answers: &mut [u32],
-    table: &mut [u32],
-    scratch: &mut [u32],
-)
-    requires { StartDue words.now l tables.now asks.now free.old.shown answers.old table.old scratch.old }
-    ensures answered { Answered (problem_of words.now) asks.now answers.old answers.new table.new }
+fn answer_each(file: &File, tables: &[u32; TABLES], asks: &[u32], free: &mut Findings, answers: &mut [u32], table: &mut [u32], scratch: &mut [u32])
+    requires { StartDue file.now tables.now asks.now free.old.shown answers.old table.old scratch.old }
+    ensures answered { Answered (problem file.now) asks.now answers.old answers.new table.new }
     ensures table_len_unchanged { length table.new ≡ length table.old }
 {
     let mut carry = empty_carry();
@@ -181,65 +153,45 @@ fn answer_each(
     // Each time round, the asks before k are answered, and the carry says what they settle.
     for k in 0..n {
         let turn = AskTurn { ask: k, carry };
-        let told = reply(words, l, tables, asks, turn, free, table, scratch);
-        carry = put_turn(l, asks, turn, told, answers);
+        let told = reply(file, tables, asks, turn, free, table, scratch);
+        carry = put_turn(file.layout, asks, turn, told, answers);
     }
 }
 
 // The table of a walk for a file, with an emptied memo; at prices of 0 where it is shown that there is no schedule, since no walk is made then.
-fn tables_of(
-    words: &[u32],
-    l: Layout,
-    first: &[u32; TABLES],
-    free: Findings,
-    scratch: &mut [u32],
-) -> [u32; TABLES]
-    requires { Filed words.now l × First (problem_of words.now) (problem_of words.now).units first.now × (scratch.old ≡ replicate (length scratch.old) 0) }
-    ensures { Walking words.now l result scratch.new }
+fn tables_of(file: &File, first: &[u32; TABLES], free: Findings, scratch: &mut [u32]) -> [u32; TABLES]
+    requires { First (problem file.now) (problem file.now).units first.now × (scratch.old ≡ replicate (length scratch.old) 0) }
+    ensures { Walking file.now result scratch.new }
 {
     if free.shown {
-        return dual::fill_tables(words, l, first, scratch);
+        return dual::fill_tables(file, first, scratch);
     }
-    let priced = prices::find_prices(words, l, first, scratch);
-    dual::fill_tables(words, l, &priced, scratch)
+    let priced = prices::find_prices(file, first, scratch);
+    dual::fill_tables(file, &priced, scratch)
 }
 
 // Every ask of a run in turn, at prices that the file gives, with an emptied table (D63).
-fn answer_priced(
-    words: &[u32],
-    l: Layout,
-    asks: &[u32],
-    answers: &mut [u32],
-    table: &mut [u32],
-    scratch: &mut [u32],
-)
-    requires { Admitted words.now l asks.now (length table.old) (length answers.old) × (table.old ≡ replicate (length table.old) 0)
+fn answer_priced(file: &File, asks: &[u32], answers: &mut [u32], table: &mut [u32], scratch: &mut [u32])
+    requires { Admitted file.now asks.now (length table.old) (length answers.old) × (table.old ≡ replicate (length table.old) 0)
         × (scratch.old ≡ replicate (length scratch.old) 0) }
-    ensures answered { Answered (problem_of words.now) asks.now answers.old answers.new table.new }
+    ensures answered { Answered (problem file.now) asks.now answers.old answers.new table.new }
     ensures table_len_unchanged { length table.new ≡ length table.old }
 {
-    let first = tables::first(words, l);
-    let mut free = farkas::try_fixed(words, l, &first);
-    let tables = tables_of(words, l, &first, free, scratch);
-    answer_each(words, l, &tables, asks, &mut free, answers, table, scratch);
+    let first = tables::first(file);
+    let mut free = farkas::try_fixed(file, &first);
+    let tables = tables_of(file, &first, free, scratch);
+    answer_each(file, &tables, asks, &mut free, answers, table, scratch);
 }
 
 // Every ask of a run that was not turned away. Table and scratch are emptied first, whatever they held (D68).
-fn answer_all(
-    words: &[u32],
-    l: Layout,
-    asks: &[u32],
-    answers: &mut [u32],
-    table: &mut [u32],
-    scratch: &mut [u32],
-)
-    requires { Admitted words.now l asks.now (length table.old) (length answers.old) }
-    ensures answered { Answered (problem_of words.now) asks.now answers.old answers.new table.new }
+fn answer_all(file: &File, asks: &[u32], answers: &mut [u32], table: &mut [u32], scratch: &mut [u32])
+    requires { Admitted file.now asks.now (length table.old) (length answers.old) }
+    ensures answered { Answered (problem file.now) asks.now answers.old answers.new table.new }
     ensures table_len_unchanged { length table.new ≡ length table.old }
 {
     nogood::clear(table);
     memo::clear(scratch);
-    answer_priced(words, l, asks, answers, table, scratch);
+    answer_priced(file, asks, answers, table, scratch);
 }
 
 // A run of asks: refused, and every lent word as it was; or every ask answered (D62). An ask makes at most twice its budget of tries, and the work
@@ -255,13 +207,6 @@ pub fn run(
         answers.old table.old scratch.old answers.new table.new scratch.new }
 {
     asks::run_verdict(words, asks, table.len(), answers.len(), scratch.len())?;
-    answer_all(
-        words,
-        instance::layout_of(words),
-        asks,
-        answers,
-        table,
-        scratch,
-    );
+    answer_all(&File::new(words), asks, answers, table, scratch);
     Ok(())
 }

@@ -13,10 +13,9 @@ use mir.Syntax.{w64}
 use mir.Val.{Fits}
 use borrow.Author.Tests.{le-leb, lt-leb}
 use Rattle.sums.specs.Table.{AtMost}
-use Rattle.model.specs.declared.Layout.{Layout}
 use Rattle.model.specs.Schedule.{in_span}
-use Rattle.model.specs.Words.{problem_of}
-use Rattle.instance.specs.Filed.{Filed}
+use Rattle.instance.specs.declared.file.File.{File}
+use Rattle.instance.specs.File.{problem}
 use Rattle.overhaul.specs.Range.{last_start}
 use Rattle.tables.specs.Tables.{PARTNERS, OFFS, HARD_WEEKS, TABLES, MOST_PRICE, partners_in, off_in, Prices, First, Priced, Begins}
 use Rattle.tables.proofs.TableLaws.{first_priced, prices_put, begins_put, begins_priced}
@@ -25,8 +24,8 @@ use Rattle.prices.specs.Ranges.{LEVEL, MOST_PUSH, MOST_SQUARE, MOST_AIM, REACH, 
 -- ---- prices
 
 -- none yet
-pub priced_first : (ws : List ℕ) (l : Layout) (xs : List ℕ) → Filed ws l → First (problem_of ws) (problem_of ws).units xs → PricedFile ws l xs
-priced_first ws l xs f h = record { filed = f; priced = first_priced (problem_of ws) xs h }
+pub priced_first : (file : File) (xs : List ℕ) → First (problem file) (problem file).units xs → PricedFile file xs
+priced_first file xs h = record { priced = first_priced (problem file) xs h }
 
 -- no price moved yet
 pub moved_start : (xs : List ℕ) → Prices xs → Moved xs xs
@@ -49,10 +48,9 @@ moved_on xs ys zs a b = record {
 }
 
 -- partners and OFF costs are as they were
-pub moved_priced : (ws : List ℕ) (l : Layout) (xs ys : List ℕ) → PricedFile ws l xs → Moved xs ys → PricedFile ws l ys
+pub moved_priced : (file : File) (xs ys : List ℕ) → PricedFile file xs → Moved xs ys → PricedFile file ys
 unfolding partners_in off_in
-moved_priced ws l xs ys h m = record {
-  filed = h.filed;
+moved_priced file xs ys h m = record {
   priced = record {
     long = m.long ∙ h.priced.long;
     prices = m.prices;
@@ -73,16 +71,16 @@ pub one_of_second : (xs ys : List ℕ) → OneOf xs ys ys
 one_of_second xs ys = record { either = inr refl }
 
 -- one of two such tables
-pub priced_either : (ws : List ℕ) (l : Layout) (xs ys zs : List ℕ) → PricedFile ws l xs → PricedFile ws l ys → OneOf xs ys zs → PricedFile ws l zs
-priced_either ws l xs ys zs a b h = by h.either
+pub priced_either : (file : File) (xs ys zs : List ℕ) → PricedFile file xs → PricedFile file ys → OneOf xs ys zs → PricedFile file zs
+priced_either file xs ys zs a b h = by h.either
   where
-    by : (zs ≡ xs) ⊎ (zs ≡ ys) → PricedFile ws l zs
+    by : (zs ≡ xs) ⊎ (zs ≡ ys) → PricedFile file zs
     by (inl e) = rw e a
     by (inr e) = rw e b
 
 -- and its prices
-pub priced_chosen : (ws : List ℕ) (l : Layout) (xs ys zs : List ℕ) → PricedFile ws l xs → PricedFile ws l ys → OneOf xs ys zs → Priced (problem_of ws) zs
-priced_chosen ws l xs ys zs a b h = (priced_either ws l xs ys zs a b h).priced
+pub priced_chosen : (file : File) (xs ys zs : List ℕ) → PricedFile file xs → PricedFile file ys → OneOf xs ys zs → Priced (problem file) zs
+priced_chosen file xs ys zs a b h = (priced_either file xs ys zs a b h).priced
 
 -- ---- pushes
 
@@ -125,15 +123,15 @@ change_most a b h k = omega (arith, product_most a b MOST_STEP LEVEL h k)
 -- ---- overhauls
 
 -- an overhaul ends in the season from the last permitted start
-pub last_ends : (ws : List ℕ) (l : Layout) (i last d : ℕ) → Filed ws l → last ≡ last_start (problem_of ws) i → d ≡ (problem_of ws).duration i
-    → d ≤ l.weeks → last + d ≤ l.weeks + 1
+pub last_ends : (file : File) (i last d : ℕ) → last ≡ last_start (problem file) i → d ≡ (problem file).duration i
+    → d ≤ file.layout.weeks → last + d ≤ file.layout.weeks + 1
 unfolding last_start
-last_ends ws l i last d f e ed h = omega (arith, f.weeks_are)
+last_ends file i last d e ed h = omega (arith, file.filed.weeks_are)
 
 -- and so from the first
-pub first_ends : (ws : List ℕ) (l : Layout) (i first last d : ℕ) → Filed ws l → last ≡ last_start (problem_of ws) i → d ≡ (problem_of ws).duration i
-    → d ≤ l.weeks → 1 ≤ first → first ≤ last → first - 1 + d ≤ l.weeks
-first_ends ws l i first last d f e ed h a b = omega (arith, last_ends ws l i last d f e ed h)
+pub first_ends : (file : File) (i first last d : ℕ) → last ≡ last_start (problem file) i → d ≡ (problem file).duration i
+    → d ≤ file.layout.weeks → 1 ≤ first → first ≤ last → first - 1 + d ≤ file.layout.weeks
+first_ends file i first last d e ed h a b = omega (arith, last_ends file i last d e ed h)
 
 -- a week before it
 pub span_before : (s d t : ℕ) → t + 1 < s → leb s (t + 1) ≡ in_span s d t
@@ -156,5 +154,5 @@ pub hard_next : (xs ys : List ℕ) (t v : ℕ) → Begins HARD_WEEKS xs ys → B
 hard_next xs ys t v h = begins_put HARD_WEEKS xs ys (HARD_WEEKS + t) v h (omega arith)
 
 -- so it has the prices, partners and OFF costs that it had
-pub hard_priced : (ws : List ℕ) (l : Layout) (xs ys : List ℕ) → Filed ws l → Begins HARD_WEEKS xs ys → Priced (problem_of ws) xs → Priced (problem_of ws) ys
-hard_priced ws l xs ys f h priced = begins_priced ws l HARD_WEEKS xs ys f h (omega arith) priced
+pub hard_priced : (file : File) (xs ys : List ℕ) → Begins HARD_WEEKS xs ys → Priced (problem file) xs → Priced (problem file) ys
+hard_priced file xs ys h priced = begins_priced file HARD_WEEKS xs ys h (omega arith) priced

@@ -1,9 +1,8 @@
 -- What the rounds keep to, so that no number grows too large: their table of prices, their pushes, and how far they have come.
 -- Assumes nothing.
 use Rattle.std.specs.Prelude.{ℕ, ◌≤◌, ◌<◌, ◌≡◌, List, ◌⊎◌, length, get_or}
-use Rattle.model.specs.declared.Layout.{Layout}
-use Rattle.model.specs.Words.{problem_of}
-use Rattle.instance.specs.Filed.{Filed}
+use Rattle.instance.specs.declared.file.File.{File}
+use Rattle.instance.specs.File.{problem}
 use Rattle.tables.specs.Tables.{PARTNERS, Prices, Priced}
 use Rattle.prices.specs.declared.step.Progress.{Progress}
 
@@ -68,9 +67,8 @@ abbrev pub MOST_UNIT_COST : ℕ
 MOST_UNIT_COST = 17179869184
 
 -- a file, and a table with its partners and OFF costs, and prices in their range
-pub record PricedFile (ws : List ℕ) (l : Layout) (xs : List ℕ) : Type 0 where
-  pub filed : Filed ws l
-  pub priced : Priced (problem_of ws) xs
+pub record PricedFile (file : File) (xs : List ℕ) : Type 0 where
+  pub priced : Priced (problem file) xs
 
 -- a table whose prices have moved within their range, and nothing else
 pub record Moved (xs ys : List ℕ) : Type 0 where

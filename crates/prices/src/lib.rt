@@ -7,14 +7,13 @@
 
 ghost use Rattle.std.specs.Prelude.{◌<◌, IfSome};
 ghost use Rattle.sums.specs.Table.{AtMost};
-ghost use Rattle.model.specs.Words.{problem_of};
-ghost use Rattle.instance.specs.Filed.{Filed};
 ghost use Rattle.memo.specs.Memo.{Right, Others};
 ghost use Rattle.tables.specs.Tables.{First, Priced};
 ghost use Rattle.prices.specs.Ranges.{MOST_BOUND, MOST_PUSH, PricedFile, ProgressInRange, OneOf};
+ghost use Rattle.instance.specs.File.{problem};
 
+use instance::File;
 use effort::Work;
-use model::Layout;
 pub use momentum::{LEVEL, PLACES, magnitude, push_at, update_momentum};
 use step::Progress;
 use tables::TABLES;
@@ -35,29 +34,20 @@ const REACH: u64 = 256;
 const LEAST_REACH: u64 = 8;
 
 // Runs a round: pushes, a step, and the bound at the new prices; no bound where units and weeks agree.
-fn run_round(
-    words: &[u32],
-    l: Layout,
-    s: Progress,
-    tables: &mut [u32; TABLES],
-    push: &mut [u32; PLACES],
-    wants: &mut Wants,
-    work: &mut Work,
-    memo: &mut [u32],
-) -> Option<u64>
-    requires { PricedFile words.now l tables.old × AtMost MOST_PUSH push.old × ProgressInRange s × Right (problem_of words.now) memo.old }
+fn run_round(file: &File, s: Progress, tables: &mut [u32; TABLES], push: &mut [u32; PLACES], wants: &mut Wants, work: &mut Work, memo: &mut [u32]) -> Option<u64>
+    requires { PricedFile file.now tables.old × AtMost MOST_PUSH push.old × ProgressInRange s × Right (problem file.now) memo.old }
     ensures bound { IfSome result (λ root. root < MOST_BOUND) }
-    ensures ranges { PricedFile words.now l tables.new × AtMost MOST_PUSH push.new }
-    ensures right { Right (problem_of words.now) memo.new × Others memo.old memo.new }
+    ensures ranges { PricedFile file.now tables.new × AtMost MOST_PUSH push.new }
+    ensures right { Right (problem file.now) memo.new × Others memo.old memo.new }
 {
-    momentum::update_momentum(words, l, wants, push);
-    let norm = momentum::squared_norm(l, push);
+    momentum::update_momentum(file, wants, push);
+    let norm = momentum::squared_norm(file.layout, push);
     if norm == 0 {
         return None;
     }
     let step = step::step_of(s, norm);
-    step::move_prices(l, step, push, tables);
-    let root = wants::solve_relaxation(words, l, tables, wants, work, memo)?;
+    step::move_prices(file.layout, step, push, tables);
+    let root = wants::solve_relaxation(file, tables, wants, work, memo)?;
     Some(root.0)
 }
 
@@ -106,18 +96,10 @@ fn keep_or_restart(
 }
 
 // The prices of the best of the rounds, from a table at whose prices the bound and what units and weeks want are these; what the rounds needed is noted.
-fn ascend(
-    words: &[u32],
-    l: Layout,
-    first: &[u32; TABLES],
-    root: u64,
-    wants: &mut Wants,
-    work: &mut Work,
-    memo: &mut [u32],
-) -> [u32; TABLES]
-    requires { PricedFile words.now l first.now × (root < MOST_BOUND) × Right (problem_of words.now) memo.old }
-    ensures answer { Priced (problem_of words.now) result }
-    ensures right { Right (problem_of words.now) memo.new × Others memo.old memo.new }
+fn ascend(file: &File, first: &[u32; TABLES], root: u64, wants: &mut Wants, work: &mut Work, memo: &mut [u32]) -> [u32; TABLES]
+    requires { PricedFile file.now first.now × (root < MOST_BOUND) × Right (problem file.now) memo.old }
+    ensures answer { Priced (problem file.now) result }
+    ensures right { Right (problem file.now) memo.new × Others memo.old memo.new }
 {
     let mut best = *first;
     let mut kept = *wants;
@@ -131,7 +113,7 @@ fn ascend(
     };
     // Each time round, `s` has the bound at the prices of `best`, the highest so far, and that at the prices of `tables`, at which `wants` is wanted.
     for _ in 0..l.units * ROUNDS {
-        let Some(root) = run_round(words, l, s, &mut tables, &mut push, wants, work, memo) else {
+        let Some(root) = run_round(file, s, &mut tables, &mut push, wants, work, memo) else {
             break;
         };
         s = keep_or_restart(root, s, &mut tables, &mut push, wants, &mut best, &mut kept);
@@ -144,25 +126,20 @@ fn ascend(
 
 // The first table of a file with prices put in; as it is, with prices of 0, where a unit has no permitted start, or a week no run with nobody out.
 // Least costs that the rounds ask for are kept in the memo (D79).
-pub fn find_prices(
-    words: &[u32],
-    l: Layout,
-    first: &[u32; TABLES],
-    memo: &mut [u32],
-) -> [u32; TABLES]
-    requires { Filed words.now l × First (problem_of words.now) (problem_of words.now).units first.now
-        × Right (problem_of words.now) memo.old }
-    ensures answer { Priced (problem_of words.now) result }
-    ensures right { Right (problem_of words.now) memo.new × Others memo.old memo.new }
+pub fn find_prices(file: &File, first: &[u32; TABLES], memo: &mut [u32]) -> [u32; TABLES]
+    requires { First (problem file.now) (problem file.now).units first.now
+        × Right (problem file.now) memo.old }
+    ensures answer { Priced (problem file.now) result }
+    ensures right { Right (problem file.now) memo.new × Others memo.old memo.new }
 {
     let mut wants = Wants::NONE;
     let mut work = Work {
         hard: [false; 52],
         nodes: 0,
     };
-    let Some(root) = wants::solve_relaxation(words, l, first, &mut wants, &mut work, memo) else {
+    let Some(root) = wants::solve_relaxation(file, first, &mut wants, &mut work, memo) else {
         return *first;
     };
-    let best = ascend(words, l, first, root.0, &mut wants, &mut work, memo);
+    let best = ascend(file, first, root.0, &mut wants, &mut work, memo);
     effort::with_hard_weeks(best, &work)
 }

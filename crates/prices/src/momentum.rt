@@ -3,9 +3,9 @@
 ghost use Rattle.std.specs.Prelude.{◌≡◌, ◌<◌, ◌≤◌};
 ghost use Rattle.sums.specs.Table.{AtMost};
 ghost use Rattle.model.specs.Schedule.{in_span};
-ghost use Rattle.instance.specs.Filed.{Filed};
 ghost use Rattle.prices.specs.Ranges.{PLACES, LEVEL, ROUND_PUSH, MOST_PUSH, MOST_SQUARE, MOST_NORM};
 
+use instance::File;
 use crate::wants::Wants;
 use model::Layout;
 
@@ -51,12 +51,12 @@ fn next_push(push: u32, up: u32, down: u32) -> u32
 }
 
 // Updates the pushes of unit i: up where its least start has it out, down where the week wants it out.
-fn update_unit(words: &[u32], l: Layout, wants: &Wants, i: usize, push: &mut [u32; PLACES])
-    requires { Filed words.now l × (i < l.units) × AtMost MOST_PUSH push.old }
+fn update_unit(file: &File, wants: &Wants, i: usize, push: &mut [u32; PLACES])
+    requires { (i < file.now.layout.units) × AtMost MOST_PUSH push.old }
     ensures { AtMost MOST_PUSH push.new }
 {
     let start = wants.starts[i];
-    let duration = instance::duration(words, l, i);
+    let duration = file.duration(i);
     for t in 0..l.weeks {
         let up = push_of(in_overhaul(start, duration, t));
         let down = push_of(sets::has(wants.out[t], i));
@@ -66,12 +66,12 @@ fn update_unit(words: &[u32], l: Layout, wants: &Wants, i: usize, push: &mut [u3
 }
 
 // Updates the pushes of all units.
-pub fn update_momentum(words: &[u32], l: Layout, wants: &Wants, push: &mut [u32; PLACES])
-    requires { Filed words.now l × AtMost MOST_PUSH push.old }
+pub fn update_momentum(file: &File, wants: &Wants, push: &mut [u32; PLACES])
+    requires { AtMost MOST_PUSH push.old }
     ensures { AtMost MOST_PUSH push.new }
 {
     for i in 0..l.units {
-        update_unit(words, l, wants, i, push);
+        update_unit(file, wants, i, push);
     }
 }
 

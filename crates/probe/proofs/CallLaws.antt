@@ -9,10 +9,10 @@ use native.Mathlib.Omega.{arith}
 use lib.ListN.{length, set}
 use Rattle.sums.specs.NumSet.{has, with}
 use Rattle.sums.specs.Table.{entry}
-use Rattle.model.specs.declared.Layout.{Layout}
 use Rattle.model.specs.Problem.{Problem}
 use Rattle.model.specs.Nogood.{MOST_LIMIT}
-use Rattle.model.specs.Words.{problem_of}
+use Rattle.instance.specs.declared.file.File.{File}
+use Rattle.instance.specs.File.{problem}
 use Rattle.instance.specs.Filed.{Filed}
 use Rattle.overhaul.specs.Range.{StartRange}
 use Rattle.overhaul.proofs.StartLaws.{range_in}
@@ -38,41 +38,37 @@ use Rattle.probe.proofs.OpenLaws.{startable_at}
 use Rattle.probe.proofs.UnitLaws.{trying_start, trying_all, probed_stopped, probed_jump, trying_next}
 
 -- the same file and table, with a memo that has changed
-walking_on : (ws : List ℕ) (l : Layout) (us memo memo' : List ℕ) → Walking ws l us memo → MemoTrue (problem_of ws) (price_in us) memo'
-    → Walking ws l us memo'
-walking_on ws l us memo memo' h r = record { filed = h.filed; dual = h.dual; recalls = r }
+walking_on : (file : File) (us memo memo' : List ℕ) → Walking file us memo → MemoTrue (problem file) (price_in us) memo'
+    → Walking file us memo'
+walking_on file us memo memo' h r = record { dual = h.dual; recalls = r }
 
 -- ---- a unit is placed
 
 -- a unit was chosen in a state and with a table; its starts from the first to before the end are tried, and those below v have failed
-pub record Starting (ws : List ℕ) (l : Layout) (us rows ys : List ℕ) (at : Visit) (w : List ℕ) (unit end : ℕ) (w₁ : List ℕ) (s : State)
+pub record Starting (file : File) (us rows ys : List ℕ) (at : Visit) (w : List ℕ) (unit end : ℕ) (w₁ : List ℕ) (s : State)
     (blame v : ℕ) (memo : List ℕ) : Type 0 where
-  pub walking : Walking ws l us memo
-  pub opened : Opened (problem_of ws) w us rows ys at.visit.node at.visit.state
-  pub inside : unit < (problem_of ws).units
+  pub walking : Walking file us memo
+  pub opened : Opened (problem file) w us rows ys at.visit.node at.visit.state
+  pub inside : unit < (problem file).units
   pub fresh : has at.visit.node.placed unit ≡ false
   pub first : ℕ
   pub last : ℕ
   pub to_last : end ≡ last + 1
-  pub range : StartRange (problem_of ws) unit first last
+  pub range : StartRange (problem file) unit first last
   pub from : first ≤ v
-  pub ends : last ≤ (problem_of ws).weeks
-  pub trying : Trying (problem_of ws) (has at.visit.node.placed) (entry at.visit.node.starts) unit w w₁ at.visit.state s blame v
+  pub ends : last ≤ (problem file).weeks
+  pub trying : Trying (problem file) (has at.visit.node.placed) (entry at.visit.node.starts) unit w w₁ at.visit.state s blame v
 
 -- as one fact
-unfoldable pub Starts : (ws : List ℕ) → Layout → (us rows ys : List ℕ) → Visit → (w : List ℕ) → (unit end : ℕ) → (w₁ : List ℕ) → State
+unfoldable pub Starts : (file : File) → (us rows ys : List ℕ) → Visit → (w : List ℕ) → (unit end : ℕ) → (w₁ : List ℕ) → State
     → (blame v : ℕ) → (memo : List ℕ) → Type 0
-Starts ws l us rows ys at w unit end w₁ s blame v memo = Starting ws l us rows ys at w unit end w₁ s blame v memo
+Starts file us rows ys at w unit end w₁ s blame v memo = Starting file us rows ys at w unit end w₁ s blame v memo
 
-module _ (ws : List ℕ) (l : Layout) (us rows ys : List ℕ) (at : Visit) (w memo : List ℕ) (d : PlaceDue ws l us rows ys at w memo) where
-  f : Filed ws l
-  unfolding PlaceDue
-  f = d.walking.filed
-
+module _ (file : File) (us rows ys : List ℕ) (at : Visit) (w memo : List ℕ) (d : PlaceDue file us rows ys at w memo) where
   -- it has a file
-  pub place_filed : Filed ws l
+  pub place_filed : Filed file.words.now file.layout
   unfolding PlaceDue
-  place_filed = d.walking.filed
+  place_filed = file.filed
 
   -- and a limit
   pub place_small : at.visit.state.limit.0 ≤ MOST_LIMIT
@@ -80,32 +76,32 @@ module _ (ws : List ℕ) (l : Layout) (us rows ys : List ℕ) (at : Visit) (w me
   place_small = d.opened.small
 
   -- all units are placed
-  pub place_leaf : (unit : ℕ) → Chosen l.units at.visit.node.placed unit → l.units ≤ unit → WeighDue ws l us rows ys at memo
+  pub place_leaf : (unit : ℕ) → Chosen file.layout.units at.visit.node.placed unit → file.layout.units ≤ unit → WeighDue file us rows ys at memo
   unfolding PlaceDue WeighDue
   place_leaf unit c last = record {
     w = w;
     needs = d;
     whole = record {
-      all = λ i h. c.all last i (omega (arith, f.units_are));
+      all = λ i h. c.all last i (omega (arith, file.filed.units_are));
       within = d.opened.within;
     };
   }
 
   -- and the plan was weighed
-  pub place_weighed : (step : Step) → Weighed (problem_of ws) at.visit.node at.visit.state step → PlaceDone (problem_of ws) w w at.visit.node at.visit.state step
+  pub place_weighed : (step : Step) → Weighed (problem file) at.visit.node at.visit.state step → PlaceDone (problem file) w w at.visit.node at.visit.state step
   unfolding PlaceDone
   place_weighed step h = h.each w
 
   -- the number after a unit's last start fits a word
-  pub place_fits : (last : ℕ) → last ≤ l.weeks → last + 1 < 18446744073709551616
-  place_fits last ends = omega (arith, f.weeks_most)
+  pub place_fits : (last : ℕ) → last ≤ file.layout.weeks → last + 1 < 18446744073709551616
+  place_fits last ends = omega (arith, file.filed.weeks_most)
 
   -- no start was tried
-  pub place_starts : (unit first last : ℕ) → Chosen l.units at.visit.node.placed unit → unit < l.units → StartRange (problem_of ws) unit first last
-      → last ≤ l.weeks → Starts ws l us rows ys at w unit (last + 1) w at.visit.state 0 first memo
+  pub place_starts : (unit first last : ℕ) → Chosen file.layout.units at.visit.node.placed unit → unit < file.layout.units → StartRange (problem file) unit first last
+      → last ≤ file.layout.weeks → Starts file us rows ys at w unit (last + 1) w at.visit.state 0 first memo
   unfolding PlaceDue Starts
   place_starts unit first last c inside range ends =
-      let in_units : unit < (problem_of ws).units = omega (arith, f.units_are) in
+      let in_units : unit < (problem file).units = omega (arith, file.filed.units_are) in
       record {
         walking = d.walking;
         opened = d.opened;
@@ -116,23 +112,23 @@ module _ (ws : List ℕ) (l : Layout) (us rows ys : List ℕ) (at : Visit) (w me
         to_last = refl;
         range = range;
         from = omega arith;
-        ends = omega (arith, f.weeks_are);
-        trying = trying_start (problem_of ws) (has at.visit.node.placed) (entry at.visit.node.starts) unit first last w at.visit.state range in_units;
+        ends = omega (arith, file.filed.weeks_are);
+        trying = trying_start (problem file) (has at.visit.node.placed) (entry at.visit.node.starts) unit first last w at.visit.state range in_units;
       }
 
-module _ (ws : List ℕ) (l : Layout) (us rows ys : List ℕ) (at : Visit) (w : List ℕ) (unit end : ℕ) (w₁ : List ℕ) (s : State)
-    (blame v : ℕ) (memo₁ : List ℕ) (h : Starts ws l us rows ys at w unit end w₁ s blame v memo₁) where
+module _ (file : File) (us rows ys : List ℕ) (at : Visit) (w : List ℕ) (unit end : ℕ) (w₁ : List ℕ) (s : State)
+    (blame v : ℕ) (memo₁ : List ℕ) (h : Starts file us rows ys at w unit end w₁ s blame v memo₁) where
   abbrev prob : Problem
-  prob = problem_of ws
+  prob = problem file
 
-  t : Trying (problem_of ws) (has at.visit.node.placed) (entry at.visit.node.starts) unit w w₁ at.visit.state s blame v
+  t : Trying (problem file) (has at.visit.node.placed) (entry at.visit.node.starts) unit w w₁ at.visit.state s blame v
   unfolding Starts
   t = h.trying
 
   -- a unit is one of sixteen
   pub starts_few : unit < 16
   unfolding Starts
-  starts_few = omega (arith, h.inside, h.walking.filed.units_are, h.walking.filed.units_most)
+  starts_few = omega (arith, h.inside, file.filed.units_are, file.filed.units_most)
 
   pub starts_small : unit < 32
   starts_small = omega (arith, starts_few)
@@ -140,9 +136,9 @@ module _ (ws : List ℕ) (l : Layout) (us rows ys : List ℕ) (at : Visit) (w : 
   -- a start is one of 52
   pub starts_within : v < end → v ≤ 52
   unfolding Starts
-  starts_within here = omega (arith, h.to_last, h.ends, h.walking.filed.weeks_are, h.walking.filed.weeks_most)
+  starts_within here = omega (arith, h.to_last, h.ends, file.filed.weeks_are, file.filed.weeks_most)
 
-  held : TableTrue (problem_of ws) w₁ s.used
+  held : TableTrue (problem file) w₁ s.used
   unfolding Starts
   held = held_carried prob w w₁ at.visit.state.used s.used h.opened.held t.goes.carried
 
@@ -150,28 +146,28 @@ module _ (ws : List ℕ) (l : Layout) (us rows ys : List ℕ) (at : Visit) (w : 
   pub starts_used : s.used ≤ length w₁
   starts_used = stock_within held.stock
 
-  pub starts_most : l.units ≤ 16
+  pub starts_most : file.layout.units ≤ 16
   unfolding Starts
-  starts_most = h.walking.filed.units_most
+  starts_most = file.filed.units_most
 
   pub starts_limit : s.limit.0 ≤ MOST_LIMIT
   unfolding Starts
   starts_limit = le_trans t.improves.falls h.opened.small
 
   -- the memo recalls
-  pub starts_recalls : MemoTrue (problem_of ws) (price_in us) memo₁
+  pub starts_recalls : MemoTrue (problem file) (price_in us) memo₁
   unfolding Starts
   starts_recalls = h.walking.recalls
 
   -- all starts have failed, and the dead end was noted or not
-  pub starts_done : (w₂ : List ℕ) (r : State) (step : Step) → end ≤ v → DeadEndNoted w₁ w₂ s r at.visit.node.starts l.units blame
-      → step ≡ dead_at r blame → PlaceDone (problem_of ws) w w₂ at.visit.node at.visit.state step
+  pub starts_done : (w₂ : List ℕ) (r : State) (step : Step) → end ≤ v → DeadEndNoted w₁ w₂ s r at.visit.node.starts file.layout.units blame
+      → step ≡ dead_at r blame → PlaceDone (problem file) w w₂ at.visit.node at.visit.state step
   unfolding Starts PlaceDone
   starts_done w₂ r step ended k is =
       let b = trying_all prob (has at.visit.node.placed) at.visit.node.starts unit w w₁ at.visit.state s blame v t h.first h.last h.range h.inside (omega (arith, h.to_last)) in
-      let carried = (later_noted prob w₁ w₂ s r at.visit.node.starts l.units blame (omega (arith, h.walking.filed.units_are)) starts_limit
+      let carried = (later_noted prob w₁ w₂ s r at.visit.node.starts file.layout.units blame (omega (arith, file.filed.units_are)) starts_limit
       (λ i e. h.opened.stands.standing.permits i (t.within i e))
-      (λ i e. omega (arith, h.opened.within i (t.within i e), h.walking.filed.units_are)) b.closed k).carried in
+      (λ i e. omega (arith, h.opened.within i (t.within i e), file.filed.units_are)) b.closed k).carried in
       let limit_is = ap (λ (x : State). x.limit) k.state in
       let best_is = ap (λ (x : State). x.best) k.state in
       let tries_is = ap (λ (x : State). x.tries) k.state in
@@ -188,14 +184,14 @@ module _ (ws : List ℕ) (l : Layout) (us rows ys : List ℕ) (at : Visit) (w : 
     unfolding Starts
     long = omega (arith, starts_few, h.opened.long)
 
-    startable : Startable (problem_of ws) w₁ us rows ys (start_at at.visit.node unit v) s
+    startable : Startable (problem file) w₁ us rows ys (start_at at.visit.node unit v) s
     unfolding Starts
     startable =
         startable_at prob w us rows ys at.visit.node at.visit.state h.opened unit v h.fresh w₁ s h.inside starts_few
         (range_in prob unit h.first h.last v h.range h.from (omega (arith, h.to_last))) starts_limit held
 
     -- the next start is tried
-    pub starts_try : StartDue ws l us rows ys next w₁ memo₁
+    pub starts_try : StartDue file us rows ys next w₁ memo₁
     unfolding Starts StartDue
     starts_try = record {
       walking = h.walking;
@@ -203,42 +199,42 @@ module _ (ws : List ℕ) (l : Layout) (us rows ys : List ℕ) (at : Visit) (w : 
     }
 
     -- the measure falls
-    pub starts_fall : (n : ℕ) → 2 * unplaced (problem_of ws) (has at.visit.node.placed) ≡ n → 2 * unplaced (problem_of ws) (has next.visit.node.placed) - 1 < n
+    pub starts_fall : (n : ℕ) → 2 * unplaced (problem file) (has at.visit.node.placed) ≡ n → 2 * unplaced (problem file) (has next.visit.node.placed) - 1 < n
     unfolding Starts
     starts_fall n e =
         let g = unplaced_falls prob (has at.visit.node.placed) unit h.inside h.fresh in
         let q = ap (λ (x : Node). unplaced prob (has x.placed)) start.node_is in
         omega (arith, g, q)
 
-    module _ (w₂ : List ℕ) (step : Step) (done : StartDone (problem_of ws) w₁ w₂ next step) (turn : Option ℕ) (told : TurnOf step blame unit turn) where
-      own : Probed (problem_of ws) (with (has at.visit.node.placed) unit) (entry (set at.visit.node.starts unit v)) w₁ w₂ s step
+    module _ (w₂ : List ℕ) (step : Step) (done : StartDone (problem file) w₁ w₂ next step) (turn : Option ℕ) (told : TurnOf step blame unit turn) where
+      own : Probed (problem file) (with (has at.visit.node.placed) unit) (entry (set at.visit.node.starts unit v)) w₁ w₂ s step
       unfolding StartDone
       own =
           subst₂ (λ (n : Node) (x : State). Probed prob (placed_after n) (entry n.starts) w₁ w₂ x step) start.node_is start.state_is done
 
       -- the probe stops, or the unit has no share in the dead end: it jumps back
-      left : turn ≡ None → PlaceDone (problem_of ws) w w₂ at.visit.node at.visit.state step
+      left : turn ≡ None → PlaceDone (problem file) w w₂ at.visit.node at.visit.state step
       unfolding Starts PlaceDone
       left so = go step.walked refl (subst (TurnOf step blame unit) so told)
         where
           go : (k : Walked) → step.walked ≡ k → LeavesUnit unit k
-              → Probed (problem_of ws) (has at.visit.node.placed) (entry at.visit.node.starts) w w₂ at.visit.state step
+              → Probed (problem file) (has at.visit.node.placed) (entry at.visit.node.starts) w w₂ at.visit.state step
           go (Spent m) e _ =
               probed_stopped prob (has at.visit.node.placed) at.visit.node.starts unit w w₁ at.visit.state s blame v t h.fresh long w₂ step own m e
           go (Dead b) e free =
               probed_jump prob (has at.visit.node.placed) at.visit.node.starts unit w w₁ at.visit.state s blame v t h.fresh long w₂ step own b e free
 
       -- it shares it: the next start
-      next_start : (memo₂ : List ℕ) (both : ℕ) → turn ≡ Some both → MemoTrue (problem_of ws) (price_in us) memo₂
-          → Starts ws l us rows ys at w unit end w₂ step.state both (v + 1) memo₂
+      next_start : (memo₂ : List ℕ) (both : ℕ) → turn ≡ Some both → MemoTrue (problem file) (price_in us) memo₂
+          → Starts file us rows ys at w unit end w₂ step.state both (v + 1) memo₂
       unfolding Starts
       next_start memo₂ both so recalls = go step.walked refl (subst (TurnOf step blame unit) so told)
         where
           go : (k : Walked) → step.walked ≡ k → GoesOn blame unit both k
-              → Starting ws l us rows ys at w unit end w₂ step.state both (v + 1) memo₂
+              → Starting file us rows ys at w unit end w₂ step.state both (v + 1) memo₂
           go (Spent m) e x = absurd x
           go (Dead b) e union = record {
-            walking = walking_on ws l us memo₁ memo₂ h.walking recalls;
+            walking = walking_on file us memo₁ memo₂ h.walking recalls;
             opened = h.opened;
             inside = h.inside;
             fresh = h.fresh;
@@ -253,20 +249,20 @@ module _ (ws : List ℕ) (l : Layout) (us rows ys : List ℕ) (at : Visit) (w : 
           }
 
 -- the same two with the facts that a search tells apart first
-pub starts_left : (ws : List ℕ) (l : Layout) (us rows ys : List ℕ) (at : Visit) (w : List ℕ) (unit end : ℕ) (w₁ : List ℕ) (s : State)
+pub starts_left : (file : File) (us rows ys : List ℕ) (at : Visit) (w : List ℕ) (unit end : ℕ) (w₁ : List ℕ) (s : State)
     (blame v : ℕ) (memo₁ : List ℕ) (next : Visit) (w₂ : List ℕ) (step : Step) (turn : Option ℕ)
-    → Starts ws l us rows ys at w unit end w₁ s blame v memo₁ → IsStart at unit v s next → StartDone (problem_of ws) w₁ w₂ next step
-    → TurnOf step blame unit turn → v < end → turn ≡ None → PlaceDone (problem_of ws) w w₂ at.visit.node at.visit.state step
-starts_left ws l us rows ys at w unit end w₁ s blame v memo₁ next w₂ step turn h start done told here =
-    left ws l us rows ys at w unit end w₁ s blame v memo₁ h here next start w₂ step done turn told
+    → Starts file us rows ys at w unit end w₁ s blame v memo₁ → IsStart at unit v s next → StartDone (problem file) w₁ w₂ next step
+    → TurnOf step blame unit turn → v < end → turn ≡ None → PlaceDone (problem file) w w₂ at.visit.node at.visit.state step
+starts_left file us rows ys at w unit end w₁ s blame v memo₁ next w₂ step turn h start done told here =
+    left file us rows ys at w unit end w₁ s blame v memo₁ h here next start w₂ step done turn told
 
-pub starts_next : (ws : List ℕ) (l : Layout) (us rows ys : List ℕ) (at : Visit) (w : List ℕ) (unit end : ℕ) (w₁ : List ℕ) (s : State)
+pub starts_next : (file : File) (us rows ys : List ℕ) (at : Visit) (w : List ℕ) (unit end : ℕ) (w₁ : List ℕ) (s : State)
     (blame v : ℕ) (memo₁ : List ℕ) (next : Visit) (w₂ : List ℕ) (step : Step) (turn : Option ℕ) (both : ℕ) (memo₂ : List ℕ)
-    → Starts ws l us rows ys at w unit end w₁ s blame v memo₁ → IsStart at unit v s next → StartDone (problem_of ws) w₁ w₂ next step
-    → TurnOf step blame unit turn → MemoTrue (problem_of ws) (price_in us) memo₂ → v < end → turn ≡ Some both
-    → Starts ws l us rows ys at w unit end w₂ step.state both (v + 1) memo₂
-starts_next ws l us rows ys at w unit end w₁ s blame v memo₁ next w₂ step turn both memo₂ h start done told recalls here so =
-    next_start ws l us rows ys at w unit end w₁ s blame v memo₁ h here next start w₂ step done turn told memo₂ both so recalls
+    → Starts file us rows ys at w unit end w₁ s blame v memo₁ → IsStart at unit v s next → StartDone (problem file) w₁ w₂ next step
+    → TurnOf step blame unit turn → MemoTrue (problem file) (price_in us) memo₂ → v < end → turn ≡ Some both
+    → Starts file us rows ys at w unit end w₂ step.state both (v + 1) memo₂
+starts_next file us rows ys at w unit end w₁ s blame v memo₁ next w₂ step turn both memo₂ h start done told recalls here so =
+    next_start file us rows ys at w unit end w₁ s blame v memo₁ h here next start w₂ step done turn told memo₂ both so recalls
 
 -- a table keeps its length
 pub place_long : (p : Problem) (w w' : List ℕ) (at : Visit) (step : Step) → StartDone p w w' at step → length w' ≡ length w

@@ -9,8 +9,8 @@ use native.Mathlib.Omega.{arith}
 use borrow.Author.Tests.{ltb-true}
 use Rattle.sums.specs.NumSet.{has}
 use Rattle.sums.specs.Table.{entry}
-use Rattle.model.specs.declared.Layout.{Layout}
-use Rattle.model.specs.Words.{problem_of}
+use Rattle.instance.specs.declared.file.File.{File}
+use Rattle.instance.specs.File.{problem}
 use Rattle.instance.specs.declared.Euro.{Euro}
 use Rattle.blame.specs.Placed.{first_units, Standing}
 use Rattle.tables.specs.Tables.{price_in}
@@ -27,13 +27,12 @@ use Rattle.probe.proofs.PlanLaws.{improves_same, goes_same}
 
 -- ---- a start
 
-module _ (ws : List ℕ) (l : Layout) (us rows ys : List ℕ) (at : Visit) (w memo : List ℕ) (d : StartDue ws l us rows ys at w memo) where
+module _ (file : File) (us rows ys : List ℕ) (at : Visit) (w memo : List ℕ) (d : StartDue file us rows ys at w memo) where
   -- what testing it asks
-  pub start_tests : TestStartDue ws l us rows ys at.visit w memo
+  pub start_tests : TestStartDue file us rows ys at.visit w memo
   unfolding StartDue TestStartDue
   start_tests = record {
     tests = record {
-      filed = d.walking.filed;
       dual = d.walking.dual;
       due = record {
         unit = d.startable.unit;
@@ -51,20 +50,20 @@ module _ (ws : List ℕ) (l : Layout) (us rows ys : List ℕ) (at : Visit) (w me
 
   -- its unit is one of sixteen
   pub start_few : at.visit.node.unit < 16
-  start_few = test_few ws l us rows ys at.visit w memo start_tests
+  start_few = test_few file us rows ys at.visit w memo start_tests
 
   -- it was judged within the budget, and holds
   pub judged_holds : (zs memo₁ : List ℕ) (c : Euro) (next : Visit) → at.visit.state.tries < at.visit.state.budget
-      → Judged (problem_of ws) us at.visit.node at.visit.state.limit.0 zs (Ok c) → MemoTrue (problem_of ws) (price_in us) memo₁
-      → Deeper at.visit c next.visit → StartTaken ws l us rows ys at w memo zs memo₁ (Ok next)
+      → Judged (problem file) us at.visit.node at.visit.state.limit.0 zs (Ok c) → MemoTrue (problem file) (price_in us) memo₁
+      → Deeper at.visit c next.visit → StartTaken file us rows ys at w memo zs memo₁ (Ok next)
   unfolding StartDue StartTaken
   judged_holds zs memo₁ c next left said recalls goes =
       record { bound = c; judging = record { due = d; left = left; said = said; recalls = recalls }; goes = goes }
 
   -- or does not
   pub judged_dead : (zs memo₁ : List ℕ) (b : ℕ) → at.visit.state.tries < at.visit.state.budget
-      → Judged (problem_of ws) us at.visit.node at.visit.state.limit.0 zs (Err b) → MemoTrue (problem_of ws) (price_in us) memo₁
-      → StartTaken ws l us rows ys at w memo zs memo₁ (Err b)
+      → Judged (problem file) us at.visit.node at.visit.state.limit.0 zs (Err b) → MemoTrue (problem file) (price_in us) memo₁
+      → StartTaken file us rows ys at w memo zs memo₁ (Err b)
   unfolding StartDue StartTaken
   judged_dead zs memo₁ b left said recalls = record { due = d; left = left; said = said; recalls = recalls }
 
@@ -86,9 +85,9 @@ stops_so step r xs k e = record {
   says = λ p a starts limit h. subst (λ (x : Step). Says p a starts limit x.walked) (sym e) tt;
 }
 
-module _ (ws : List ℕ) (l : Layout) (us rows ys : List ℕ) (at : Visit) (memo : List ℕ) (d : WeighDue ws l us rows ys at memo) where
+module _ (file : File) (us rows ys : List ℕ) (at : Visit) (memo : List ℕ) (d : WeighDue file us rows ys at memo) where
   -- what weighing the plan asks
-  pub weigh_leaf : LeafDue ws l us rows ys at.visit memo
+  pub weigh_leaf : LeafDue file us rows ys at.visit memo
   unfolding WeighDue LeafDue
   weigh_leaf = record {
     walking = d.needs.walking;
@@ -98,28 +97,28 @@ module _ (ws : List ℕ) (l : Layout) (us rows ys : List ℕ) (at : Visit) (memo
     small = d.needs.opened.small;
   }
 
-  standing : Standing (problem_of ws) (has at.visit.node.placed) (entry at.visit.node.starts)
+  standing : Standing (problem file) (has at.visit.node.placed) (entry at.visit.node.starts)
   unfolding WeighDue
   standing = d.needs.opened.stands.standing
 
-  all : (i : ℕ) → i < (problem_of ws).units → has at.visit.node.placed i ≡ true
+  all : (i : ℕ) → i < (problem file).units → has at.visit.node.placed i ≡ true
   unfolding WeighDue
   all = d.whole.all
 
   -- the plan costs the limit or more, or it is the best so far
-  weighed_so : (step : Step) → Leaf (problem_of ws) at.visit.node.starts at.visit.state step → Weighed (problem_of ws) at.visit.node at.visit.state step
+  weighed_so : (step : Step) → Leaf (problem file) at.visit.node.starts at.visit.state step → Weighed (problem file) at.visit.node at.visit.state step
   unfolding WeighDue first_units
-  weighed_so step (inl h) = subst (Weighed (problem_of ws) at.visit.node at.visit.state) (sym h.is) (record {
+  weighed_so step (inl h) = subst (Weighed (problem file) at.visit.node at.visit.state) (sym h.is) (record {
     each = λ w. record {
-      improves = improves_same (problem_of ws) (has at.visit.node.placed) (entry at.visit.node.starts) at.visit.state.limit.0 (entry at.visit.state.best);
+      improves = improves_same (problem file) (has at.visit.node.placed) (entry at.visit.node.starts) at.visit.state.limit.0 (entry at.visit.state.best);
       says = record {
         closed = h.blames.closed;
-        within = λ i e. all i (ltb-true i (problem_of ws).units (h.blames.within i e));
+        within = λ i e. all i (ltb-true i (problem file).units (h.blames.within i e));
       };
-      goes = goes_same (problem_of ws) w at.visit.state;
+      goes = goes_same (problem file) w at.visit.state;
     };
   })
-  weighed_so step (inr h) = subst (Weighed (problem_of ws) at.visit.node at.visit.state) (sym h.is) (record {
+  weighed_so step (inr h) = subst (Weighed (problem file) at.visit.node at.visit.state) (sym h.is) (record {
     each = λ w. record {
       improves = record {
         falls = omega (arith, h.less);
@@ -134,21 +133,21 @@ module _ (ws : List ℕ) (l : Layout) (us rows ys : List ℕ) (at : Visit) (memo
       };
       says = record {
         closed = h.blames.closed;
-        within = λ i e. all i (ltb-true i (problem_of ws).units (h.blames.within i e));
+        within = λ i e. all i (ltb-true i (problem file).units (h.blames.within i e));
       };
-      goes = record { carried = (goes_same (problem_of ws) w at.visit.state).carried; budget = refl; counted = λ m. m };
+      goes = record { carried = (goes_same (problem file) w at.visit.state).carried; budget = refl; counted = λ m. m };
     };
   })
 
   -- and the probe may stop there
-  pub weighed_stops : (step r : Step) → Leaf (problem_of ws) at.visit.node.starts at.visit.state step → Stops step r
-      → Weighed (problem_of ws) at.visit.node at.visit.state r
+  pub weighed_stops : (step r : Step) → Leaf (problem file) at.visit.node.starts at.visit.state step → Stops step r
+      → Weighed (problem file) at.visit.node at.visit.state r
   weighed_stops step r h s =
       let x = weighed_so step h in
       record {
         each = λ w. let y = x.each w in record {
           improves = rw (s.limit_is, s.best_is) y.improves;
-          says = rw s.limit_is (s.says (problem_of ws) (has at.visit.node.placed) (entry at.visit.node.starts) step.state.limit.0 y.says);
+          says = rw s.limit_is (s.says (problem file) (has at.visit.node.placed) (entry at.visit.node.starts) step.state.limit.0 y.says);
           goes = record {
             carried = rw s.used_is y.goes.carried;
             budget = s.budget_is ∙ y.goes.budget;

@@ -9,9 +9,9 @@ use Rattle.sums.specs.NumSet.{has}
 use Rattle.sums.specs.Table.{entry}
 use Rattle.sums.proofs.LogicLaws.{true_false}
 use Rattle.sums.proofs.NumSetLaws.{zero_has}
-use Rattle.model.specs.declared.Layout.{Layout}
 use Rattle.model.specs.Problem.{Problem}
-use Rattle.model.specs.Words.{problem_of}
+use Rattle.instance.specs.declared.file.File.{File}
+use Rattle.instance.specs.File.{problem}
 use Rattle.instance.specs.declared.Euro.{Euro}
 use Rattle.std.proofs.Common.{Result, Ok, Err}
 use Rattle.bound.specs.Tests.{Blames, AllStand, AllBlame, RootValues, Rooted, RootDue}
@@ -30,36 +30,36 @@ use Rattle.probe.proofs.PlanLaws.{goes_same}
 blame_nobody : (p : Problem) (starts : ℕ → ℕ) (limit b : ℕ) → Blames p (has 0) starts limit b → AllSettled p limit
 blame_nobody p starts limit b h = record { costs = λ s sound. h.closed.costs s sound (λ i l e. true_false (sym (h.within i e) ∙ zero_has i)) }
 
-module _ (ws : List ℕ) (l : Layout) (us w memo : List ℕ) (st : State) (d : ProbeDue ws l us st w memo) where
+module _ (file : File) (us w memo : List ℕ) (st : State) (d : ProbeDue file us st w memo) where
   -- what the root asks
-  pub root_due : RootDue ws l us st.limit.0
-  root_due = record { filed = d.walking.filed; dual = d.walking.dual; small = d.small }
+  pub root_due : RootDue file us st.limit.0
+  root_due = record { dual = d.walking.dual; small = d.small }
 
-  module _ (v : Result Euro ℕ) (said : Rooted (problem_of ws) us st.limit.0 v) where
+  module _ (v : Result Euro ℕ) (said : Rooted (problem file) us st.limit.0 v) where
     -- before any unit is placed nothing is left below the limit
-    pub root_fails : (b : ℕ) (step : Step) → v ≡ Err b → step ≡ dead_at st 0 → RootDone (problem_of ws) w w st step
+    pub root_fails : (b : ℕ) (step : Step) → v ≡ Err b → step ≡ dead_at st 0 → RootDone (problem file) w w st step
     root_fails b step e is =
-        let h : AllBlame (problem_of ws) st.limit.0 b = subst (Rooted (problem_of ws) us st.limit.0) e said in
-        subst (RootDone (problem_of ws) w w st) (sym is) (record {
+        let h : AllBlame (problem file) st.limit.0 b = subst (Rooted (problem file) us st.limit.0) e said in
+        subst (RootDone (problem file) w w st) (sym is) (record {
           falls = omega arith;
-          settled = λ _. blame_nobody (problem_of ws) (λ i. 0) st.limit.0 b (h.each (λ i. 0));
+          settled = λ _. blame_nobody (problem file) (λ i. 0) st.limit.0 b (h.each (λ i. 0));
           plan = λ m. absurd (omega arith);
-          goes = goes_same (problem_of ws) w st;
+          goes = goes_same (problem file) w st;
         })
 
     -- no unit is placed
     pub root_places : (c : Euro) (rows ys : List ℕ) (at : Visit) → v ≡ Ok c → rows ≡ replicate 52 0 → RootValues us ys → AtRoot c.0 st at.visit
-        → PlaceDue ws l us rows ys at w memo
+        → PlaceDue file us rows ys at w memo
     unfolding PlaceDue
     root_places c rows ys at e none fronts root =
-        let stands : AllStand (problem_of ws) us ys c.0 = subst (Rooted (problem_of ws) us st.limit.0) e said ys fronts in
+        let stands : AllStand (problem file) us ys c.0 = subst (Rooted (problem file) us st.limit.0) e said ys fronts in
         record {
           walking = d.walking;
           opened = record {
             within = λ i h. true_false (sym h ∙ (ap (λ (n : ℕ). has n i) root.nobody ∙ zero_has i));
             long = root.long;
             stands = rw (root.nobody, root.bound_is) (stands.each (entry at.visit.node.starts));
-            tallied = rw root.nobody (rows_none (problem_of ws) (entry at.visit.node.starts) rows none);
+            tallied = rw root.nobody (rows_none (problem file) (entry at.visit.node.starts) rows none);
             small = rw root.same d.small;
             held = rw root.same d.held;
           };

@@ -10,9 +10,9 @@ use lib.ListN.{length}
 use Rattle.sums.specs.NumSet.{NumSet, has}
 use Rattle.sums.specs.Table.{entry}
 use Rattle.sums.proofs.NumSetLaws.{with_back}
-use Rattle.model.specs.declared.Layout.{Layout}
 use Rattle.model.specs.Problem.{Problem}
-use Rattle.model.specs.Words.{problem_of}
+use Rattle.instance.specs.declared.file.File.{File}
+use Rattle.instance.specs.File.{problem}
 use Rattle.instance.specs.Filed.{Filed}
 use Rattle.blame.specs.Placed.{out_of}
 use Rattle.tables.specs.Tables.{price_in}
@@ -35,9 +35,9 @@ use Rattle.probe.proofs.PlanLaws.{improves_same, goes_next, unplaced_falls}
 goes_tried : (p : Problem) (w : List ℕ) (st : State) → st.tries < st.budget → Goes p w st w (tried_once st)
 goes_tried p w st left = record { carried = carried_same p w st.used; budget = refl; counted = λ _. omega arith }
 
-module _ (ws : List ℕ) (l : Layout) (us rows ys : List ℕ) (at : Visit) (w memo : List ℕ) (d : StartDue ws l us rows ys at w memo) where
+module _ (file : File) (us rows ys : List ℕ) (at : Visit) (w memo : List ℕ) (d : StartDue file us rows ys at w memo) where
   -- it has a memo
-  pub try_recalls : MemoTrue (problem_of ws) (price_in us) memo
+  pub try_recalls : MemoTrue (problem file) (price_in us) memo
   unfolding StartDue
   try_recalls = d.walking.recalls
 
@@ -47,39 +47,39 @@ module _ (ws : List ℕ) (l : Layout) (us rows ys : List ℕ) (at : Visit) (w me
   try_long = sym d.startable.opened.stands.bounds.values.long
 
   -- the tries are spent
-  pub try_stops : (k : ℕ) (step : Step) → step ≡ stopped_at at.visit.state at.visit.node.starts k → StartDone (problem_of ws) w w at step
+  pub try_stops : (k : ℕ) (step : Step) → step ≡ stopped_at at.visit.state at.visit.node.starts k → StartDone (problem file) w w at step
   unfolding StartDone
-  try_stops k step is = subst (StartDone (problem_of ws) w w at) (sym is) (record {
-    improves = improves_same (problem_of ws) (placed_after at.visit.node) (entry at.visit.node.starts) at.visit.state.limit.0 (entry at.visit.state.best);
+  try_stops k step is = subst (StartDone (problem file) w w at) (sym is) (record {
+    improves = improves_same (problem file) (placed_after at.visit.node) (entry at.visit.node.starts) at.visit.state.limit.0 (entry at.visit.state.best);
     says = tt;
-    goes = record { carried = carried_same (problem_of ws) w at.visit.state.used; budget = refl; counted = λ m. m };
+    goes = record { carried = carried_same (problem file) w at.visit.state.used; budget = refl; counted = λ m. m };
   })
 
 -- it fails
-pub taken_fails : (ws : List ℕ) (l : Layout) (us rows ys : List ℕ) (at : Visit) (w memo zs memo₁ : List ℕ) (r : Result Visit ℕ)
-    → StartTaken ws l us rows ys at w memo zs memo₁ r → (b : ℕ) (s : State) (step : Step) → r ≡ Err b → s ≡ tried_once at.visit.state → step ≡ dead_at s b
-    → StartDone (problem_of ws) w w at step
+pub taken_fails : (file : File) (us rows ys : List ℕ) (at : Visit) (w memo zs memo₁ : List ℕ) (r : Result Visit ℕ)
+    → StartTaken file us rows ys at w memo zs memo₁ r → (b : ℕ) (s : State) (step : Step) → r ≡ Err b → s ≡ tried_once at.visit.state → step ≡ dead_at s b
+    → StartDone (problem file) w w at step
 unfolding StartTaken StartDone
-taken_fails ws l us rows ys at w memo zs memo₁ r j b s step t es is =
-    let d : Judging ws l us rows ys at w memo zs memo₁ (Err b) = subst (StartTaken ws l us rows ys at w memo zs memo₁) t j in
-    subst (StartDone (problem_of ws) w w at) (sym (is ∙ ap (λ (x : State). dead_at x b) es)) (record {
-      improves = improves_same (problem_of ws) (placed_after at.visit.node) (entry at.visit.node.starts) at.visit.state.limit.0 (entry at.visit.state.best);
+taken_fails file us rows ys at w memo zs memo₁ r j b s step t es is =
+    let d : Judging file us rows ys at w memo zs memo₁ (Err b) = subst (StartTaken file us rows ys at w memo zs memo₁) t j in
+    subst (StartDone (problem file) w w at) (sym (is ∙ ap (λ (x : State). dead_at x b) es)) (record {
+      improves = improves_same (problem file) (placed_after at.visit.node) (entry at.visit.node.starts) at.visit.state.limit.0 (entry at.visit.state.best);
       says = d.said;
-      goes = goes_tried (problem_of ws) w at.visit.state d.left;
+      goes = goes_tried (problem file) w at.visit.state d.left;
     })
 
-pub taken_dead_recalls : (ws : List ℕ) (l : Layout) (us rows ys : List ℕ) (at : Visit) (w memo zs memo₁ : List ℕ) (r : Result Visit ℕ) (b : ℕ)
-    → StartTaken ws l us rows ys at w memo zs memo₁ r → r ≡ Err b → MemoTrue (problem_of ws) (price_in us) memo₁
+pub taken_dead_recalls : (file : File) (us rows ys : List ℕ) (at : Visit) (w memo zs memo₁ : List ℕ) (r : Result Visit ℕ) (b : ℕ)
+    → StartTaken file us rows ys at w memo zs memo₁ r → r ≡ Err b → MemoTrue (problem file) (price_in us) memo₁
 unfolding StartTaken
-taken_dead_recalls ws l us rows ys at w memo zs memo₁ r b j t =
-    let d : Judging ws l us rows ys at w memo zs memo₁ (Err b) = subst (StartTaken ws l us rows ys at w memo zs memo₁) t j in d.recalls
+taken_dead_recalls file us rows ys at w memo zs memo₁ r b j t =
+    let d : Judging file us rows ys at w memo zs memo₁ (Err b) = subst (StartTaken file us rows ys at w memo zs memo₁) t j in d.recalls
 
 -- it holds
-module _ (ws : List ℕ) (l : Layout) (us rows ys : List ℕ) (at : Visit) (w memo zs memo₁ : List ℕ) (r : Result Visit ℕ)
-    (j : StartTaken ws l us rows ys at w memo zs memo₁ r) (next : Visit) (is : r ≡ Ok next) where
-  pub taken : Taken ws l us rows ys at w memo zs memo₁ next
+module _ (file : File) (us rows ys : List ℕ) (at : Visit) (w memo zs memo₁ : List ℕ) (r : Result Visit ℕ)
+    (j : StartTaken file us rows ys at w memo zs memo₁ r) (next : Visit) (is : r ≡ Ok next) where
+  pub taken : Taken file us rows ys at w memo zs memo₁ next
   unfolding StartTaken
-  taken = subst (StartTaken ws l us rows ys at w memo zs memo₁) is j
+  taken = subst (StartTaken file us rows ys at w memo zs memo₁) is j
 
   goes : IsNext at.visit.node taken.bound next.visit.node
   goes = taken.goes.node_is
@@ -88,14 +88,14 @@ module _ (ws : List ℕ) (l : Layout) (us rows ys : List ℕ) (at : Visit) (w me
   counted = taken.goes.state_is
 
   -- the file, and the memo as it recalls now
-  pub taken_filed : Filed ws l
-  taken_filed = taken.judging.due.walking.filed
+  pub taken_filed : Filed file.words.now file.layout
+  taken_filed = file.filed
 
-  pub taken_recalls : MemoTrue (problem_of ws) (price_in us) memo₁
+  pub taken_recalls : MemoTrue (problem file) (price_in us) memo₁
   taken_recalls = taken.judging.recalls
 
   -- what its rows ask
-  pub taken_rows : RowsDue (problem_of ws) rows (entry at.visit.node.starts) at.visit.node.unit
+  pub taken_rows : RowsDue (problem file) rows (entry at.visit.node.starts) at.visit.node.unit
   taken_rows =
       let u = taken.judging.due.startable in
       record { unit = u.unit; permits = u.permits; long = u.opened.tallied.long; tallies = u.opened.tallied.tallies }
@@ -103,49 +103,49 @@ module _ (ws : List ℕ) (l : Layout) (us rows ys : List ℕ) (at : Visit) (w me
   placed : has next.visit.node.placed ≡ placed_after at.visit.node
   placed = fun_ext goes.joins
 
-  opened : (out : List ℕ) → RowsWith (problem_of ws) rows (entry at.visit.node.starts) at.visit.node.unit out
-      → Opened (problem_of ws) w us out zs (next_node at.visit.node next.visit.node.placed taken.bound) (tried_once at.visit.state)
+  opened : (out : List ℕ) → RowsWith (problem file) rows (entry at.visit.node.starts) at.visit.node.unit out
+      → Opened (problem file) w us out zs (next_node at.visit.node next.visit.node.placed taken.bound) (tried_once at.visit.state)
   opened out tallied = let u = taken.judging.due.startable in record {
     within = λ i h.
         ⊎_elim (λ (f : has at.visit.node.placed i ≡ true). u.opened.within i f) (λ (q : i ≡ at.visit.node.unit). omega (arith, u.unit))
         (with_back (has at.visit.node.placed) at.visit.node.unit i (sym (goes.joins i) ∙ h));
     long = u.opened.long;
-    stands = subst (λ (a : NumSet). Stands (problem_of ws) us a (entry at.visit.node.starts) zs taken.bound.0) (sym placed) taken.judging.said;
-    tallied = subst (λ (a : NumSet). Rows (problem_of ws) (out_of (problem_of ws) a (entry at.visit.node.starts)) out) (sym placed)
-        (rows_joined (problem_of ws) rows (has at.visit.node.placed) (entry at.visit.node.starts) at.visit.node.unit out u.opened.tallied tallied);
+    stands = subst (λ (a : NumSet). Stands (problem file) us a (entry at.visit.node.starts) zs taken.bound.0) (sym placed) taken.judging.said;
+    tallied = subst (λ (a : NumSet). Rows (problem file) (out_of (problem file) a (entry at.visit.node.starts)) out) (sym placed)
+        (rows_joined (problem file) rows (has at.visit.node.placed) (entry at.visit.node.starts) at.visit.node.unit out u.opened.tallied tallied);
     small = u.opened.small;
     held = u.opened.held;
   }
 
   -- another unit is to be placed
-  pub taken_places : (out : List ℕ) → RowsWith (problem_of ws) rows (entry at.visit.node.starts) at.visit.node.unit out
-      → PlaceDue ws l us out zs next w memo₁
+  pub taken_places : (out : List ℕ) → RowsWith (problem file) rows (entry at.visit.node.starts) at.visit.node.unit out
+      → PlaceDue file us out zs next w memo₁
   unfolding PlaceDue
   taken_places out tallied = record {
-    walking = record { filed = taken.judging.due.walking.filed; dual = taken.judging.due.walking.dual; recalls = taken.judging.recalls };
-    opened = subst₂ (Opened (problem_of ws) w us out zs) (sym goes.is) (sym counted) (opened out tallied);
+    walking = record { dual = taken.judging.due.walking.dual; recalls = taken.judging.recalls };
+    opened = subst₂ (Opened (problem file) w us out zs) (sym goes.is) (sym counted) (opened out tallied);
   }
 
   -- the measure falls
-  pub taken_falls : (n : ℕ) → 2 * unplaced (problem_of ws) (has at.visit.node.placed) - 1 ≡ n
-      → 2 * unplaced (problem_of ws) (has next.visit.node.placed) < n
+  pub taken_falls : (n : ℕ) → 2 * unplaced (problem file) (has at.visit.node.placed) - 1 ≡ n
+      → 2 * unplaced (problem file) (has next.visit.node.placed) < n
   taken_falls n en =
       let u = taken.judging.due.startable in
-      let g = unplaced_falls (problem_of ws) (has at.visit.node.placed) at.visit.node.unit u.unit u.fresh in
-      let q = ap (unplaced (problem_of ws)) placed in
+      let g = unplaced_falls (problem file) (has at.visit.node.placed) at.visit.node.unit u.unit u.fresh in
+      let q = ap (unplaced (problem file)) placed in
       omega (arith, g, q)
 
   -- it was
-  pub taken_placed : (w₂ : List ℕ) (step : Step) → PlaceDone (problem_of ws) w w₂ next.visit.node next.visit.state step
-      → StartDone (problem_of ws) w w₂ at step
+  pub taken_placed : (w₂ : List ℕ) (step : Step) → PlaceDone (problem file) w w₂ next.visit.node next.visit.state step
+      → StartDone (problem file) w w₂ at step
   unfolding StartDone PlaceDone
   taken_placed w₂ step done =
-      let x : Probed (problem_of ws) (placed_after at.visit.node) (entry at.visit.node.starts) w w₂ (tried_once at.visit.state) step
-      = subst (λ (a : NumSet). Probed (problem_of ws) a (entry at.visit.node.starts) w w₂ (tried_once at.visit.state) step) placed
-      (subst₂ (λ (n : Node) (s : State). Probed (problem_of ws) (has n.placed) (entry n.starts) w w₂ s step) goes.is counted done) in
+      let x : Probed (problem file) (placed_after at.visit.node) (entry at.visit.node.starts) w w₂ (tried_once at.visit.state) step
+      = subst (λ (a : NumSet). Probed (problem file) a (entry at.visit.node.starts) w w₂ (tried_once at.visit.state) step) placed
+      (subst₂ (λ (n : Node) (s : State). Probed (problem file) (has n.placed) (entry n.starts) w w₂ s step) goes.is counted done) in
       record {
         improves = x.improves;
         says = x.says;
-        goes = goes_next (problem_of ws) w w w₂ at.visit.state (tried_once at.visit.state) step.state
-            (goes_tried (problem_of ws) w at.visit.state taken.judging.left) x.goes;
+        goes = goes_next (problem file) w w w₂ at.visit.state (tried_once at.visit.state) step.state
+            (goes_tried (problem file) w at.visit.state taken.judging.left) x.goes;
       }

@@ -5,12 +5,12 @@ use Rattle.std.specs.Prelude.{ℕ, ◌≤◌, ◌<◌, ◌≡◌, true, false, L
 use Rattle.sums.specs.Range.{count_to}
 use Rattle.sums.specs.NumSet.{NumSet, has, complement}
 use Rattle.sums.specs.Table.{entry}
-use Rattle.model.specs.declared.Layout.{Layout}
 use Rattle.model.specs.Problem.{Problem}
 use Rattle.model.specs.Domain.{permitted}
 use Rattle.model.specs.Schedule.{Schedule, out_in, Sound, cost}
 use Rattle.model.specs.Nogood.{MOST_LIMIT}
-use Rattle.model.specs.Words.{problem_of}
+use Rattle.instance.specs.declared.file.File.{File}
+use Rattle.instance.specs.File.{problem}
 use Rattle.blame.specs.Closed.{Agree}
 use Rattle.blame.specs.Placed.{out_of, paid, Standing}
 use Rattle.tables.specs.Tables.{price_in}
@@ -112,48 +112,48 @@ pub record Startable (p : Problem) (w us rows ys : List ℕ) (node : Node) (st :
   pub opened : Opened p w us rows ys node st
 
 -- what placing a unit asks
-pub record PlaceNeeds (ws : List ℕ) (l : Layout) (us rows ys : List ℕ) (at : Visit) (w memo : List ℕ) : Type 0 where
-  pub walking : Walking ws l us memo
-  pub opened : Opened (problem_of ws) w us rows ys at.visit.node at.visit.state
+pub record PlaceNeeds (file : File) (us rows ys : List ℕ) (at : Visit) (w memo : List ℕ) : Type 0 where
+  pub walking : Walking file us memo
+  pub opened : Opened (problem file) w us rows ys at.visit.node at.visit.state
 
 -- what trying a start asks
-pub record StartNeeds (ws : List ℕ) (l : Layout) (us rows ys : List ℕ) (at : Visit) (w memo : List ℕ) : Type 0 where
-  pub walking : Walking ws l us memo
-  pub startable : Startable (problem_of ws) w us rows ys at.visit.node at.visit.state
+pub record StartNeeds (file : File) (us rows ys : List ℕ) (at : Visit) (w memo : List ℕ) : Type 0 where
+  pub walking : Walking file us memo
+  pub startable : Startable (problem file) w us rows ys at.visit.node at.visit.state
 
 -- the same as one fact each
-unfoldable pub PlaceDue : (ws : List ℕ) → Layout → (us rows ys : List ℕ) → Visit → (w memo : List ℕ) → Type 0
-PlaceDue ws l us rows ys at w memo = PlaceNeeds ws l us rows ys at w memo
+unfoldable pub PlaceDue : (file : File) → (us rows ys : List ℕ) → Visit → (w memo : List ℕ) → Type 0
+PlaceDue file us rows ys at w memo = PlaceNeeds file us rows ys at w memo
 
-unfoldable pub StartDue : (ws : List ℕ) → Layout → (us rows ys : List ℕ) → Visit → (w memo : List ℕ) → Type 0
-StartDue ws l us rows ys at w memo = StartNeeds ws l us rows ys at w memo
+unfoldable pub StartDue : (file : File) → (us rows ys : List ℕ) → Visit → (w memo : List ℕ) → Type 0
+StartDue file us rows ys at w memo = StartNeeds file us rows ys at w memo
 
 -- what weighing a plan asks: no unit is left
-pub record WeighNeeds (ws : List ℕ) (l : Layout) (us rows ys : List ℕ) (at : Visit) (memo : List ℕ) : Type 0 where
+pub record WeighNeeds (file : File) (us rows ys : List ℕ) (at : Visit) (memo : List ℕ) : Type 0 where
   pub w : List ℕ
-  pub needs : PlaceNeeds ws l us rows ys at w memo
-  pub whole : AllPlaced (problem_of ws) at.visit.node.placed
+  pub needs : PlaceNeeds file us rows ys at w memo
+  pub whole : AllPlaced (problem file) at.visit.node.placed
 
-unfoldable pub WeighDue : (ws : List ℕ) → Layout → (us rows ys : List ℕ) → Visit → (memo : List ℕ) → Type 0
-WeighDue ws l us rows ys at memo = WeighNeeds ws l us rows ys at memo
+unfoldable pub WeighDue : (file : File) → (us rows ys : List ℕ) → Visit → (memo : List ℕ) → Type 0
+WeighDue file us rows ys at memo = WeighNeeds file us rows ys at memo
 
 -- a start that was to be tried was judged within the budget; what it asked holds still
-pub record Judging (ws : List ℕ) (l : Layout) (us rows ys : List ℕ) (at : Visit) (w memo zs memo₁ : List ℕ) (v : Result Euro ℕ) : Type 0 where
-  pub due : StartNeeds ws l us rows ys at w memo
+pub record Judging (file : File) (us rows ys : List ℕ) (at : Visit) (w memo zs memo₁ : List ℕ) (v : Result Euro ℕ) : Type 0 where
+  pub due : StartNeeds file us rows ys at w memo
   pub left : at.visit.state.tries < at.visit.state.budget
-  pub said : Judged (problem_of ws) us at.visit.node at.visit.state.limit.0 zs v
-  pub recalls : MemoTrue (problem_of ws) (price_in us) memo₁
+  pub said : Judged (problem file) us at.visit.node at.visit.state.limit.0 zs v
+  pub recalls : MemoTrue (problem file) (price_in us) memo₁
 
 -- it holds, and the probe goes on
-pub record Taken (ws : List ℕ) (l : Layout) (us rows ys : List ℕ) (at : Visit) (w memo zs memo₁ : List ℕ) (next : Visit) : Type 0 where
+pub record Taken (file : File) (us rows ys : List ℕ) (at : Visit) (w memo zs memo₁ : List ℕ) (next : Visit) : Type 0 where
   pub bound : Euro
-  pub judging : Judging ws l us rows ys at w memo zs memo₁ (Ok bound)
+  pub judging : Judging file us rows ys at w memo zs memo₁ (Ok bound)
   pub goes : Deeper at.visit bound next.visit
 
 -- it holds, or some units' starts are a dead end
-unfoldable pub StartTaken : (ws : List ℕ) → Layout → (us rows ys : List ℕ) → Visit → (w memo zs memo₁ : List ℕ) → Result Visit ℕ → Type 0
-StartTaken ws l us rows ys at w memo zs memo₁ (Ok next) = Taken ws l us rows ys at w memo zs memo₁ next
-StartTaken ws l us rows ys at w memo zs memo₁ (Err b) = Judging ws l us rows ys at w memo zs memo₁ (Err b)
+unfoldable pub StartTaken : (file : File) → (us rows ys : List ℕ) → Visit → (w memo zs memo₁ : List ℕ) → Result Visit ℕ → Type 0
+StartTaken file us rows ys at w memo zs memo₁ (Ok next) = Taken file us rows ys at w memo zs memo₁ next
+StartTaken file us rows ys at w memo zs memo₁ (Err b) = Judging file us rows ys at w memo zs memo₁ (Err b)
 
 -- a node with start v for a unit
 abbrev pub start_at : Node → (unit v : ℕ) → Node
@@ -188,10 +188,10 @@ StartDone p w w' at step = Probed p (placed_after at.visit.node) (entry at.visit
 -- ---- from the root
 
 -- what a probe from the root asks
-pub record ProbeDue (ws : List ℕ) (l : Layout) (us : List ℕ) (st : State) (w memo : List ℕ) : Type 0 where
-  pub walking : Walking ws l us memo
+pub record ProbeDue (file : File) (us : List ℕ) (st : State) (w memo : List ℕ) : Type 0 where
+  pub walking : Walking file us memo
   pub small : st.limit.0 ≤ MOST_LIMIT
-  pub held : TableTrue (problem_of ws) w st.used
+  pub held : TableTrue (problem file) w st.used
 
 -- it has ended: where it was not stopped nothing is below its last limit, and where that has fallen it is the cost of the plan
 pub record RootDone (p : Problem) (w w' : List ℕ) (st : State) (step : Step) : Type 0 where

@@ -1,11 +1,9 @@
 // The unit that a probe places next. Nothing rests on which it is: a test at the end sees that it is one that is not placed.
 ghost use Rattle.std.specs.Prelude.{◌≡◌, false, ◌+◌, ◌<◌, ◌≤◌};
 ghost use Rattle.sums.specs.NumSet.{has};
-ghost use Rattle.model.specs.Words.{problem_of};
-ghost use Rattle.instance.specs.Filed.{Filed};
 ghost use Rattle.probe.specs.Probe.{Chosen};
 
-use instance::{Euro, Kilo};
+use instance::{Euro, File, Kilo};
 use model::Layout;
 use overhaul::Starts;
 use sets::SETS;
@@ -49,48 +47,46 @@ fn with_needed(set: u32, i: usize, capacity: Kilo, spare: Kilo) -> u32
 }
 
 // The units whose capacity is more than what can be spared in week t.
-fn needed(words: &[u32], l: Layout, t: usize, spare: Kilo) -> u32
-    requires { Filed words.now l }
+fn needed(file: &File, t: usize, spare: Kilo) -> u32
 {
-    let units = l.units;
+    let units = file.layout.units;
     let mut set = 0;
     for i in 0..units {
-        set = with_needed(set, i, instance::capacity(words, l, t, i), spare);
+        set = with_needed(set, i, file.capacity(t, i), spare);
     }
     set
 }
 
 // What the units not out give in week t above the demand; 0 where they fall short of it.
-fn spare_in(words: &[u32], l: Layout, t: usize, out: u32) -> Kilo
-    requires { Filed words.now l × (t < l.weeks) }
+fn spare_in(file: &File, t: usize, out: u32) -> Kilo
+    requires { (t < file.now.layout.weeks) }
 {
-    let all = instance::run_output(words, l, t, EVERY);
-    let lost = instance::run_output(words, l, t, out);
-    let demand = instance::demand(words, l, t);
-    all.less(lost).less(demand)
+    let all = file.run_output(t, EVERY);
+    let lost = file.run_output(t, out);
+    let demand = file.demand(t);
+    all.saturating_sub(lost).saturating_sub(demand)
 }
 
 // The units for which week t is shut: all where as many are out as there are crews; else the partners of those out, and each without which the
 // demand is not met.
-fn shut_units(words: &[u32], l: Layout, tables: &[u32; TABLES], t: usize, word: u64) -> u32
-    requires { Filed words.now l × (t < l.weeks) }
+fn shut_units(file: &File, tables: &[u32; TABLES], t: usize, word: u64) -> u32
+    requires { (t < file.now.layout.weeks) }
 {
-    if instance::crews(words, l) <= bound::row_count(word) {
+    if file.crews() <= bound::row_count(word) {
         return EVERY;
     }
     let out = bound::row_units(word);
-    let spare = spare_in(words, l, t, out);
-    sets::union(barred(l, tables, out), needed(words, l, t, spare))
+    let spare = spare_in(file, t, out);
+    sets::union(barred(file.layout, tables, out), needed(file, t, spare))
 }
 
 // The same for each week.
-fn shut_weeks(words: &[u32], l: Layout, tables: &[u32; TABLES], rows: &[u64; 52]) -> [u32; 52]
-    requires { Filed words.now l }
+fn shut_weeks(file: &File, tables: &[u32; TABLES], rows: &[u64; 52]) -> [u32; 52]
 {
-    let weeks = l.weeks;
+    let weeks = file.layout.weeks;
     let mut shut: [u32; 52] = [0; 52];
     for t in 0..weeks {
-        shut[t] = shut_units(words, l, tables, t, rows[t]);
+        shut[t] = shut_units(file, tables, t, rows[t]);
     }
     shut
 }
@@ -149,20 +145,13 @@ fn opens(
 }
 
 // How many starts of unit i are open: permitted, no week of them shut for the unit, their excess below the room.
-fn open_starts(
-    words: &[u32],
-    l: Layout,
-    tables: &[u32; TABLES],
-    shut: &[u32; 52],
-    i: usize,
-    room: Euro,
-) -> usize
-    requires { Filed words.now l × (i < l.units) }
+fn open_starts(file: &File, tables: &[u32; TABLES], shut: &[u32; 52], i: usize, room: Euro) -> usize
+    requires { (i < file.now.layout.units) }
     ensures { result ≤ 52 }
 {
-    let starts = overhaul::starts_of(words, l, i);
-    let duration = instance::duration(words, l, i);
-    let weeks = l.weeks;
+    let starts = overhaul::starts_of(file, i);
+    let duration = file.duration(i);
+    let weeks = file.layout.weeks;
     let mut run = 0;
     let mut count = 0;
     for t in 0..weeks {
@@ -197,23 +186,14 @@ fn narrower(a: Narrow, b: Narrow) -> Narrow {
 }
 
 // The narrower of one and unit i, where unit i is not placed.
-fn consider(
-    words: &[u32],
-    l: Layout,
-    tables: &[u32; TABLES],
-    shut: &[u32; 52],
-    placed: u32,
-    i: usize,
-    room: Euro,
-    best: Narrow,
-) -> Narrow
-    requires { Filed words.now l × (i < l.units) }
+fn consider(file: &File, tables: &[u32; TABLES], shut: &[u32; 52], placed: u32, i: usize, room: Euro, best: Narrow) -> Narrow
+    requires { (i < file.now.layout.units) }
 {
     if sets::has(placed, i) {
         return best;
     }
-    let open = open_starts(words, l, tables, shut, i, room);
-    let weeks = instance::duration(words, l, i);
+    let open = open_starts(file, tables, shut, i, room);
+    let weeks = file.duration(i);
     narrower(
         best,
         Narrow {
@@ -228,25 +208,17 @@ fn consider(
 const NONE_OPEN: usize = 64;
 
 // Of the units not placed, rising, the one with the fewest open starts; the first that has none at once.
-fn narrowest(
-    words: &[u32],
-    l: Layout,
-    tables: &[u32; TABLES],
-    rows: &[u64; 52],
-    placed: u32,
-    room: Euro,
-) -> usize
-    requires { Filed words.now l }
+fn narrowest(file: &File, tables: &[u32; TABLES], rows: &[u64; 52], placed: u32, room: Euro) -> usize
 {
-    let units = l.units;
-    let shut = shut_weeks(words, l, tables, rows);
+    let units = file.layout.units;
+    let shut = shut_weeks(file, tables, rows);
     let mut best = Narrow {
         unit: units,
         open: NONE_OPEN,
         weeks: 0,
     };
     for i in 0..units {
-        let next = consider(words, l, tables, &shut, placed, i, room, best);
+        let next = consider(file, tables, &shut, placed, i, room, best);
         best = next;
         if best.open == 0 {
             return best.unit;
@@ -284,22 +256,14 @@ fn free_or(units: usize, placed: u32, i: usize, other: usize) -> usize
 }
 
 // A unit that is not placed; as many as there are units where all are.
-pub fn choose(
-    words: &[u32],
-    l: Layout,
-    tables: &[u32; TABLES],
-    rows: &[u64; 52],
-    placed: u32,
-    room: Euro,
-) -> usize
-    requires { Filed words.now l }
-    ensures { Chosen l.units placed result }
+pub fn choose(file: &File, tables: &[u32; TABLES], rows: &[u64; 52], placed: u32, room: Euro) -> usize
+    ensures { Chosen file.now.layout.units placed result }
 {
-    let units = l.units;
-    let first = first_free(l, placed);
+    let units = file.layout.units;
+    let first = first_free(file.layout, placed);
     if units <= first {
         return first;
     }
-    let narrow = narrowest(words, l, tables, rows, placed, room);
+    let narrow = narrowest(file, tables, rows, placed, room);
     free_or(units, placed, narrow, first)
 }

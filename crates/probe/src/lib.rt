@@ -6,17 +6,15 @@
 
 ghost use Rattle.std.specs.Prelude.{◌<◌, ◌≤◌, length};
 ghost use Rattle.model.specs.Nogood.{MOST_LIMIT};
-ghost use Rattle.model.specs.Words.{problem_of};
-ghost use Rattle.instance.specs.Filed.{Filed};
 ghost use Rattle.tables.specs.Tables.{price_in};
 ghost use Rattle.relaxation.specs.Relaxed.{MemoTrue};
 ghost use Rattle.state.specs.State.{MOST_TRIES, DeadEndNoted};
 ghost use Rattle.walk.specs.Walk.{AtRoot, Deeper};
 ghost use Rattle.probe.specs.Probe.{Chosen, IsStart, PlaceDue, StartDue, StartTaken, WeighDue, Weighed, Stops, PlaceDone, StartDone, RootDone, ProbeDue};
+ghost use Rattle.instance.specs.File.{problem};
 
 use dual::Node;
-use instance::Euro;
-use model::Layout;
+use instance::{Euro, File};
 use state::{State, Step};
 use tables::TABLES;
 
@@ -90,22 +88,13 @@ fn deeper(at: Visit, bound: Euro) -> Visit
 }
 
 // Judges the start of a unit, within the budget: where the probe goes on, or the units whose starts are a dead end.
-pub fn judge_start(
-    words: &[u32],
-    l: Layout,
-    tables: &[u32; TABLES],
-    rows: &[u64; 52],
-    at: Visit,
-    table: &[u32],
-    values: &mut [u32],
-    memo: &mut [u32],
-) -> Result<Visit, u32>
-    requires { StartDue words.now l tables.now rows.now values.old at table.now memo.old × (at.visit.state.tries < MOST_TRIES)
+pub fn judge_start(file: &File, tables: &[u32; TABLES], rows: &[u64; 52], at: Visit, table: &[u32], values: &mut [u32], memo: &mut [u32]) -> Result<Visit, u32>
+    requires { StartDue file.now tables.now rows.now values.old at table.now memo.old × (at.visit.state.tries < MOST_TRIES)
         × (at.visit.state.tries < at.visit.state.budget) }
-    ensures { StartTaken words.now l tables.now rows.now values.old at table.now memo.old
+    ensures { StartTaken file.now tables.now rows.now values.old at table.now memo.old
         values.new memo.new result }
 {
-    let bound = walk::test_start(words, l, tables, rows, at.visit, table, values, memo)?;
+    let bound = walk::test_start(file, tables, rows, at.visit, table, values, memo)?;
     Ok(deeper(at, bound))
 }
 
@@ -127,33 +116,25 @@ fn stop_at_plan(step: Step, limit: Euro, first: bool) -> Step
 }
 
 // Every unit has its start: what the plan costs, and who is to blame that no other with their starts costs less.
-fn weigh(
-    words: &[u32],
-    l: Layout,
-    tables: &[u32; TABLES],
-    rows: &[u64; 52],
-    values: &[u32; 52],
-    at: Visit,
-    memo: &mut [u32],
-) -> Step
-    requires { WeighDue words.now l tables.now rows.now values.now at memo.old }
-    ensures answer { Weighed (problem_of words.now) at.visit.node at.visit.state result }
-    ensures recalls { MemoTrue (problem_of words.now) (price_in tables.now) memo.new }
+fn weigh(file: &File, tables: &[u32; TABLES], rows: &[u64; 52], values: &[u32; 52], at: Visit, memo: &mut [u32]) -> Step
+    requires { WeighDue file.now tables.now rows.now values.now at memo.old }
+    ensures answer { Weighed (problem file.now) at.visit.node at.visit.state result }
+    ensures recalls { MemoTrue (problem file.now) (price_in tables.now) memo.new }
 {
-    let step = walk::close_leaf(words, l, tables, rows, values, at.visit, memo);
+    let step = walk::close_leaf(file, tables, rows, values, at.visit, memo);
     stop_at_plan(step, at.visit.state.limit, at.first)
 }
 
 // ---- a start tried, and the starts of a unit
 
 // The unit that is placed next; as many as there are where all are placed.
-fn next_unit(words: &[u32], l: Layout, tables: &[u32; TABLES], rows: &[u64; 52], at: Visit) -> usize
-    requires { Filed words.now l × (at.visit.state.limit.0 ≤ MOST_LIMIT) }
-    ensures { Chosen l.units at.visit.node.placed result }
+fn next_unit(file: &File, tables: &[u32; TABLES], rows: &[u64; 52], at: Visit) -> usize
+    requires { (at.visit.state.limit.0 ≤ MOST_LIMIT) }
+    ensures { Chosen file.now.layout.units at.visit.node.placed result }
 {
     let node = at.visit.node;
     let wanted = dual::wanted(tables, at.visit.state.limit);
-    choice::choose(words, l, tables, rows, node.placed, wanted.less(node.bound))
+    choice::choose(file, tables, rows, node.placed, wanted.saturating_sub(node.bound))
 }
 
 // The visit of a node with start v for a unit.
@@ -173,19 +154,10 @@ pub fn with_start(at: Visit, unit: usize, v: usize, st: State) -> Visit
 
 // Tries the start of the node's unit, and places another unit where it holds.
 #[cycle(place_try_start)]
-fn try_start(
-    words: &[u32],
-    l: Layout,
-    tables: &[u32; TABLES],
-    rows: &[u64; 52],
-    values: &[u32; 52],
-    at: Visit,
-    table: &mut [u32],
-    memo: &mut [u32],
-) -> Step
-    requires { StartDue words.now l tables.now rows.now values.now at table.old memo.old }
-    ensures answer { StartDone (problem_of words.now) table.old table.new at result }
-    ensures recalls { MemoTrue (problem_of words.now) (price_in tables.now) memo.new }
+fn try_start(file: &File, tables: &[u32; TABLES], rows: &[u64; 52], values: &[u32; 52], at: Visit, table: &mut [u32], memo: &mut [u32]) -> Step
+    requires { StartDue file.now tables.now rows.now values.now at table.old memo.old }
+    ensures answer { StartDone (problem file.now) table.old table.new at result }
+    ensures recalls { MemoTrue (problem file.now) (price_in tables.now) memo.new }
 {
     let st = at.visit.state;
     let node = at.visit.node;
@@ -193,49 +165,40 @@ fn try_start(
         return state::stopped(st, node.starts, 0);
     }
     let mut next = *values;
-    match judge_start(words, l, tables, rows, at, &table[..], &mut next, memo) {
+    match judge_start(file, tables, rows, at, &table[..], &mut next, memo) {
         Err(b) => state::dead_end(state::tried(st), b),
         Ok(below) => {
-            let out = bound::placed_rows(words, l, rows, node.starts, node.unit);
-            place(words, l, tables, &out, &next, below, table, memo)
+            let out = bound::placed_rows(file, rows, node.starts, node.unit);
+            place(file, tables, &out, &next, below, table, memo)
         }
     }
 }
 
 // Tries the starts of a unit in turn, or weighs the plan where all units are placed. A dead end that the unit has no share in is handed up at once.
 #[cycle(place_try_start)]
-pub fn place(
-    words: &[u32],
-    l: Layout,
-    tables: &[u32; TABLES],
-    rows: &[u64; 52],
-    values: &[u32; 52],
-    at: Visit,
-    table: &mut [u32],
-    memo: &mut [u32],
-) -> Step
-    requires { PlaceDue words.now l tables.now rows.now values.now at table.old memo.old }
-    ensures answer { PlaceDone (problem_of words.now) table.old table.new at.visit.node at.visit.state result }
-    ensures recalls { MemoTrue (problem_of words.now) (price_in tables.now) memo.new }
+pub fn place(file: &File, tables: &[u32; TABLES], rows: &[u64; 52], values: &[u32; 52], at: Visit, table: &mut [u32], memo: &mut [u32]) -> Step
+    requires { PlaceDue file.now tables.now rows.now values.now at table.old memo.old }
+    ensures answer { PlaceDone (problem file.now) table.old table.new at.visit.node at.visit.state result }
+    ensures recalls { MemoTrue (problem file.now) (price_in tables.now) memo.new }
 {
-    let unit = next_unit(words, l, tables, rows, at);
-    if l.units <= unit {
-        return weigh(words, l, tables, rows, values, at, memo);
+    let unit = next_unit(file, tables, rows, at);
+    if file.layout.units <= unit {
+        return weigh(file, tables, rows, values, at, memo);
     }
-    let range = overhaul::starts_of(words, l, unit);
+    let range = overhaul::starts_of(file, unit);
     let mut s = at.visit.state;
     let mut blame = 0;
     // Each time round, no schedule with the starts of the units to blame and a start of this unit below v is left below the limit.
     for v in range.first..range.last + 1 {
         let next = with_start(at, unit, v, s);
-        let step = try_start(words, l, tables, rows, values, next, table, memo);
+        let step = try_start(file, tables, rows, values, next, table, memo);
         let Some(shared) = walk::turn_after(step, blame, unit) else {
             return step;
         };
         blame = shared;
         s = step.state;
     }
-    let noted = note_blame(table, s, at.visit.node.starts, l.units, blame, at.order);
+    let noted = note_blame(table, s, at.visit.node.starts, file.layout.units, blame, at.order);
     state::dead_end(noted, blame)
 }
 
@@ -261,26 +224,19 @@ pub fn root_visit(bound: Euro, st: State, first: bool) -> Visit
 }
 
 // A probe from the root, under the state's limit and within its budget.
-pub fn from_root(
-    words: &[u32],
-    l: Layout,
-    tables: &[u32; TABLES],
-    st: State,
-    table: &mut [u32],
-    memo: &mut [u32],
-) -> Step
-    requires { ProbeDue words.now l tables.now st table.old memo.old }
-    ensures answer { RootDone (problem_of words.now) table.old table.new st result }
-    ensures recalls { MemoTrue (problem_of words.now) (price_in tables.now) memo.new }
+pub fn from_root(file: &File, tables: &[u32; TABLES], st: State, table: &mut [u32], memo: &mut [u32]) -> Step
+    requires { ProbeDue file.now tables.now st table.old memo.old }
+    ensures answer { RootDone (problem file.now) table.old table.new st result }
+    ensures recalls { MemoTrue (problem file.now) (price_in tables.now) memo.new }
 {
-    let v = bound::root(words, l, tables, st.limit);
+    let v = bound::root(file, tables, st.limit);
     match v {
         Err(_) => state::dead_end(st, 0),
         Ok(bound) => {
             let rows = bound::no_rows();
             let values = bound::first_values(tables);
             let at = root_visit(bound, st, false);
-            place(words, l, tables, &rows, &values, at, table, memo)
+            place(file, tables, &rows, &values, at, table, memo)
         }
     }
 }

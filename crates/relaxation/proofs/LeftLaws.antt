@@ -15,9 +15,8 @@ use Rattle.sums.specs.Sum.{sum_to}
 use Rattle.sums.specs.NumSet.{NumSet, only_in, complement, has}
 use Rattle.sums.proofs.NumSetLaws.{sum_over}
 use Rattle.sums.proofs.LoopLaws.{zeros_at, place_next}
-use Rattle.model.specs.declared.Layout.{Layout}
-use Rattle.model.specs.Words.{problem_of}
-use Rattle.instance.specs.Filed.{Filed}
+use Rattle.instance.specs.declared.file.File.{File}
+use Rattle.instance.specs.File.{problem}
 use Rattle.tables.specs.Tables.{MOST_PRICE, MOST_WEEK_PRICES, price_in, Prices, Priced}
 use Rattle.tables.proofs.TableLaws.{price_most}
 use Rattle.relaxation.specs.Choosing.{prices_not_out, NoGain, PricesLeft, PricesLeftAtLeast}
@@ -85,9 +84,9 @@ pub left_all : (u : ℕ → ℕ → ℕ) (t n : ℕ) (a : NumSet) (left : List �
 left_all u t n a left l = l.sums n (le_refl n)
 
 -- of 16 units at most
-pub left_all_small : (ws xs left : List ℕ) (l : Layout) (t : ℕ) (a : NumSet) → Filed ws l → Priced (problem_of ws) xs → PricesLeft (price_in xs) t a l.units left
-    → get_or left l.units 0 ≤ MOST_WEEK_PRICES
-left_all_small ws xs left l t a f h s = left_small xs left t l.units l.units a h.prices f.units_most s (le_refl l.units)
+pub left_all_small : (file : File) (xs left : List ℕ) (t : ℕ) (a : NumSet) → Priced (problem file) xs → PricesLeft (price_in xs) t a file.layout.units left
+    → get_or left file.layout.units 0 ≤ MOST_WEEK_PRICES
+left_all_small file xs left t a h s = left_small xs left t file.layout.units file.layout.units a h.prices file.filed.units_most s (le_refl file.layout.units)
 
 -- it bounds the prices of the units not out
 pub spare_start : (xs left : List ℕ) (t n out own : ℕ) → Prices xs → n ≤ 16 → PricesLeft (price_in xs) t (has out) n left → own ≡ out

@@ -17,6 +17,8 @@ use Rattle.model.specs.Problem.{Problem}
 use Rattle.model.specs.Words.{problem_of}
 use Rattle.model.specs.Plan.{Compatible}
 use Rattle.model.specs.Commitment.{NO_RUN, full_least}
+use Rattle.instance.specs.declared.file.File.{File}
+use Rattle.instance.specs.File.{problem}
 use Rattle.instance.specs.Filed.{Filed}
 use Rattle.memo.specs.Memo.{Right}
 use Rattle.relaxation.specs.declared.WeekNode.{WeekNode}
@@ -45,29 +47,29 @@ module _ (left : List ℕ) (i low : ℕ) (y : WeekNode) (b : Bool) (is : b ≡ h
 -- ---- what is known
 
 -- the prices left are no more than 16
-beginning_rest : (ws : List ℕ) (l : Layout) (xs left : List ℕ) (t out cost : ℕ) → Beginning ws l xs left t out cost
-    → (get_or left l.units 0 ≡ prices_not_out (price_in xs) t (has out) (problem_of ws).units) × (get_or left l.units 0 ≤ MOST_WEEK_PRICES)
-beginning_rest ws l xs left t out cost b =
-    let f = b.at.filed in (
-      left_all (price_in xs) t l.units (has out) left b.sums ∙ ap (prices_not_out (price_in xs) t (has out)) (sym f.units_are),
-      left_all_small ws xs left l t (has out) f b.at.priced b.sums,
+beginning_rest : (file : File) (xs left : List ℕ) (t out cost : ℕ) → Beginning file xs left t out cost
+    → (get_or left file.layout.units 0 ≡ prices_not_out (price_in xs) t (has out) (problem file).units) × (get_or left file.layout.units 0 ≤ MOST_WEEK_PRICES)
+beginning_rest file xs left t out cost b =
+    let f = file.filed in (
+      left_all (price_in xs) t file.layout.units (has out) left b.sums ∙ ap (prices_not_out (price_in xs) t (has out)) (sym f.units_are),
+      left_all_small file xs left t (has out) b.at.priced b.sums,
     )
 
 -- so the sum with the cheapest run fits
-pub beginning_small : (ws : List ℕ) (l : Layout) (xs left : List ℕ) (t out cost : ℕ) → Beginning ws l xs left t out cost
-    → cost + get_or left l.units 0 < 18446744073709551616
-beginning_small ws l xs left t out cost b = omega (arith, b.small, (beginning_rest ws l xs left t out cost b).1)
+pub beginning_small : (file : File) (xs left : List ℕ) (t out cost : ℕ) → Beginning file xs left t out cost
+    → cost + get_or left file.layout.units 0 < 18446744073709551616
+beginning_small file xs left t out cost b = omega (arith, b.small, (beginning_rest file xs left t out cost b).1)
 
 -- just these units
-pub begun_of : (ws : List ℕ) (l : Layout) (xs left : List ℕ) (t out cost : ℕ) (y : WeekNode) → Beginning ws l xs left t out cost → y.week ≡ t
-    → y.out ≡ out → y.rest.0 ≡ get_or left l.units 0 → y.value.0 ≡ cost + y.rest.0 → CrewsLeft (problem_of ws) (has y.out) y.room
-    → NeedlessUnits (problem_of ws) (price_in xs) t (has y.out) (problem_of ws).units y.shut → RootNode (problem_of ws) (price_in xs) t out cost y
-begun_of ws l xs left t out cost y b week same is sum room shut =
-    let rest = beginning_rest ws l xs left t out cost b in
+pub begun_of : (file : File) (xs left : List ℕ) (t out cost : ℕ) (y : WeekNode) → Beginning file xs left t out cost → y.week ≡ t
+    → y.out ≡ out → y.rest.0 ≡ get_or left file.layout.units 0 → y.value.0 ≡ cost + y.rest.0 → CrewsLeft (problem file) (has y.out) y.room
+    → NeedlessUnits (problem file) (price_in xs) t (has y.out) (problem file).units y.shut → RootNode (problem file) (price_in xs) t out cost y
+begun_of file xs left t out cost y b week same is sum room shut =
+    let rest = beginning_rest file xs left t out cost b in
     record {
       known = record {
-        rest = rw week (is ∙ rest.0 ∙ ap (λ (o : ℕ). prices_not_out (price_in xs) t (has o) (problem_of ws).units) (sym same));
-        value = rw week (sum ∙ ap (λ (c : ℕ). c + y.rest.0) (b.is ∙ ap (λ (o : ℕ). full_least (problem_of ws) t (has o)) (sym same)));
+        rest = rw week (is ∙ rest.0 ∙ ap (λ (o : ℕ). prices_not_out (price_in xs) t (has o) (problem file).units) (sym same));
+        value = rw week (sum ∙ ap (λ (c : ℕ). c + y.rest.0) (b.is ∙ ap (λ (o : ℕ). full_least (problem file) t (has o)) (sym same)));
         small = omega (arith, b.small, rest.1);
         room = room;
         shut = rw week shut;
@@ -77,16 +79,16 @@ begun_of ws l xs left t out cost y b week same is sum room shut =
       value = sum ∙ ap (λ (x : ℕ). cost + x) (is ∙ rest.0);
     }
 
-module _ (ws xs : List ℕ) (l : Layout) (i : ℕ) (y : WeekNode) (f : Filed ws l) (h : i < l.units) (priced : Priced (problem_of ws) xs)
-    (known : NodeKnown (problem_of ws) (price_in xs) y) where
-  in_units : i < (problem_of ws).units
-  in_units = omega (arith, f.units_are)
+module _ (file : File) (xs : List ℕ) (i : ℕ) (y : WeekNode) (h : i < file.layout.units) (priced : Priced (problem file) xs)
+    (known : NodeKnown (problem file) (price_in xs) y) where
+  in_units : i < (problem file).units
+  in_units = omega (arith, file.filed.units_are)
 
   -- the rest is no more than 16 prices
   pub rest_small : y.rest.0 ≤ MOST_WEEK_PRICES
   rest_small =
-      let few : (problem_of ws).units ≤ 16 = omega (arith, f.units_are, f.units_most) in
-      omega (arith, known.rest, not_out_small xs y.week (has y.out) (problem_of ws).units priced.prices, mul-le-mul_right MOST_PRICE few)
+      let few : (problem file).units ≤ 16 = omega (arith, file.filed.units_are, file.filed.units_most) in
+      omega (arith, known.rest, not_out_small xs y.week (has y.out) (problem file).units priced.prices, mul-le-mul_right MOST_PRICE few)
 
   module _ (tried : has y.shut i ≡ false) where
     not_in : has y.out i ≡ false
@@ -97,17 +99,17 @@ module _ (ws xs : List ℕ) (l : Layout) (i : ℕ) (y : WeekNode) (f : Filed ws 
     price_in_lem =
         let q : NumSet = λ k. has y.out k || eqb k i in
         let j : Joins (has y.out) i q = λ k. refl in
-        omega (arith, known.rest, not_out_joined (price_in xs) y.week (has y.out) q i (problem_of ws).units in_units not_in j)
+        omega (arith, known.rest, not_out_joined (price_in xs) y.week (has y.out) q i (problem file).units in_units not_in j)
 
-    module _ (out cost : ℕ) (z : WeekNode) (join : (k : ℕ) → has out k ≡ (has y.out k || eqb k i)) (e : cost ≡ full_least (problem_of ws) y.week (has out)) (small : cost ≤ NO_RUN)
+    module _ (out cost : ℕ) (z : WeekNode) (join : (k : ℕ) → has out k ≡ (has y.out k || eqb k i)) (e : cost ≡ full_least (problem file) y.week (has out)) (small : cost ≤ NO_RUN)
         (child : Child (price_in xs y.week i) (partners_in xs i) i y out cost z) where
       joined : Joins (has y.out) i (has z.out)
       joined = rw child.out_is join
 
       -- of the set with it
-      pub known_child : NodeKnown (problem_of ws) (price_in xs) z
+      pub known_child : NodeKnown (problem file) (price_in xs) z
       known_child =
-          let p = problem_of ws in
+          let p = problem file in
           record {
             rest = rw child.week (omega (
               arith,
@@ -129,14 +131,14 @@ module _ (ws xs : List ℕ) (l : Layout) (i : ℕ) (y : WeekNode) (f : Filed ws 
             });
           }
         where
-          by : (k : ℕ) → k < (problem_of ws).units → has z.out k ≡ true → Dec (k ≡ i) → has z.shut k ≡ true
+          by : (k : ℕ) → k < (problem file).units → has z.out k ≡ true → Dec (k ≡ i) → has z.shut k ≡ true
           by k m s (yes q) = more_of y.shut (partners_in xs i) z.shut i child.shut k (inr q)
           by k m s (no q) =
               more_of y.shut (partners_in xs i) z.shut i child.shut k
               (inl (known.shut.own k m (sym (joins_other (has y.out) (has z.out) i joined k q) ∙ s)))
 
       -- as a whole
-      pub known_with : WithUnit (problem_of ws) (price_in xs) i y z
+      pub known_with : WithUnit (problem file) (price_in xs) i y z
       known_with = record { known = known_child; week = child.week; sets = joined }
 
 -- the table of prices left serves the set with it too
@@ -158,33 +160,33 @@ with_open b s i h e = h e
 -- ---- a choice that goes on
 
 -- from the set to start from
-pub choosing_start : (ws xs left memo : List ℕ) (l : Layout) (t out cost : ℕ) (y : WeekNode) → WeekAt ws l xs t → Right (problem_of ws) memo
-    → PricesLeft (price_in xs) t (has out) l.units left → RootNode (problem_of ws) (price_in xs) t out cost y → Choosing ws l xs left y memo
-choosing_start ws xs left memo l t out cost y here right table begun = record {
+pub choosing_start : (file : File) (xs left memo : List ℕ) (t out cost : ℕ) (y : WeekNode) → WeekAt file xs t → Right (problem file) memo
+    → PricesLeft (price_in xs) t (has out) file.layout.units left → RootNode (problem file) (price_in xs) t out cost y → Choosing file xs left y memo
+choosing_start file xs left memo t out cost y here right table begun = record {
   at = rw begun.week here;
   right = right;
   known = begun.known;
-  spare = rw begun.week (spare_start xs left t l.units out y.out here.priced.prices here.filed.units_most table begun.same);
+  spare = rw begun.week (spare_start xs left t file.layout.units out y.out here.priced.prices file.filed.units_most table begun.same);
 }
 
 -- where the prices left are made
-pub beginning_of : (ws xs left : List ℕ) (l : Layout) (t out cost : ℕ) → WeekAt ws l xs t → PricesLeft (price_in xs) t (has out) l.units left
-    → cost ≡ full_least (problem_of ws) t (has out) → cost < NO_RUN → Beginning ws l xs left t out cost
-beginning_of ws xs left l t out cost at table is small = record { at = at; sums = table; is = is; small = small }
+pub beginning_of : (file : File) (xs left : List ℕ) (t out cost : ℕ) → WeekAt file xs t → PricesLeft (price_in xs) t (has out) file.layout.units left
+    → cost ≡ full_least (problem file) t (has out) → cost < NO_RUN → Beginning file xs left t out cost
+beginning_of file xs left t out cost at table is small = record { at = at; sums = table; is = is; small = small }
 
 -- with a memo that has changed
-pub choosing_on : (ws xs left memo memo' : List ℕ) (l : Layout) (y : WeekNode) → Choosing ws l xs left y memo → Right (problem_of ws) memo'
-    → Choosing ws l xs left y memo'
-choosing_on ws xs left memo memo' l y c right = record { at = c.at; right = right; known = c.known; spare = c.spare }
+pub choosing_on : (file : File) (xs left memo memo' : List ℕ) (y : WeekNode) → Choosing file xs left y memo → Right (problem file) memo'
+    → Choosing file xs left y memo'
+choosing_on file xs left memo memo' y c right = record { at = c.at; right = right; known = c.known; spare = c.spare }
 
 -- with unit i out as well
-pub choosing_with : (ws xs left memo memo' : List ℕ) (l : Layout) (i : ℕ) (y z : WeekNode) → Choosing ws l xs left y memo
-    → WithUnit (problem_of ws) (price_in xs) i y z → Right (problem_of ws) memo' → Choosing ws l xs left z memo'
-choosing_with ws xs left memo memo' l i y z c more right = record {
+pub choosing_with : (file : File) (xs left memo memo' : List ℕ) (i : ℕ) (y z : WeekNode) → Choosing file xs left y memo
+    → WithUnit (problem file) (price_in xs) i y z → Right (problem file) memo' → Choosing file xs left z memo'
+choosing_with file xs left memo memo' i y z c more right = record {
   at = rw more.week c.at;
   right = right;
   known = more.known;
-  spare = spare_with (problem_of ws) (price_in xs) i l.units left y z c.spare more;
+  spare = spare_with (problem file) (price_in xs) i file.layout.units left y z c.spare more;
 }
 
 -- ---- what it says of the bound
@@ -265,13 +267,12 @@ out_known p u y k = record {
     by out c sub i l o (inr (inl e)) = inr e
     by out c sub i l o (inr (inr b)) = absurd (b.never out c sub o)
 
-pub states_due : (ws xs : List ℕ) (l : Layout) (y : WeekNode) (w : WeekTask) → WeekAt ws l xs y.week
-    → NodeKnown (problem_of ws) (price_in xs) y → w.week ≡ y.week → w.out ≡ y.out → w.shut ≡ y.shut → w.room ≡ y.room
-    → w.most.0 ≡ y.value.0 → WeekDue ws l xs w
-states_due ws xs l y w at known e f g h m = record {
-  filed = at.filed;
+pub states_due : (file : File) (xs : List ℕ) (y : WeekNode) (w : WeekTask) → WeekAt file xs y.week
+    → NodeKnown (problem file) (price_in xs) y → w.week ≡ y.week → w.out ≡ y.out → w.shut ≡ y.shut → w.room ≡ y.room
+    → w.most.0 ≡ y.value.0 → WeekDue file xs w
+states_due file xs y w at known e f g h m = record {
   week = rw e at.week;
   priced = at.priced;
-  known = rw (e, f, g, h) (out_known (problem_of ws) (price_in xs) y known);
+  known = rw (e, f, g, h) (out_known (problem file) (price_in xs) y known);
   small = omega (arith, m, known.small);
 }

@@ -14,11 +14,10 @@ use Rattle.sums.specs.Sum.{sum_to, counts_one}
 use Rattle.sums.specs.NumSet.{NumSet, only_in, has}
 use Rattle.sums.proofs.LogicLaws.{true_false, or_left, or_right}
 use Rattle.sums.proofs.NumSetLaws.{zero_has}
-use Rattle.model.specs.declared.Layout.{Layout}
 use Rattle.model.specs.Problem.{Problem}
 use Rattle.model.specs.Rules.{headcount}
-use Rattle.model.specs.Words.{problem_of}
-use Rattle.instance.specs.Filed.{Filed}
+use Rattle.instance.specs.declared.file.File.{File}
+use Rattle.instance.specs.File.{problem}
 use Rattle.tables.specs.Tables.{price_in, partners_in, PartnersOf, Priced}
 use Rattle.relaxation.specs.Choosing.{Needless, NeedlessUnits, CrewsLeft}
 use Rattle.relaxation.proofs.OutLaws.{apart_barred}
@@ -41,12 +40,12 @@ unfolding sum_to
 room_next p f i room r h l = rw add-one (omega arith)
 
 -- all of them
-pub room_ended : (ws : List ℕ) (l : Layout) (o : NumSet) (i room : ℕ) → Filed ws l → (problem_of ws).crews ≤ sum_to i (only_in o counts_one) + room
-    → i ≤ l.units → l.units ≤ i → CrewsLeft (problem_of ws) o room
+pub room_ended : (file : File) (o : NumSet) (i room : ℕ) → (problem file).crews ≤ sum_to i (only_in o counts_one) + room
+    → i ≤ file.layout.units → file.layout.units ≤ i → CrewsLeft (problem file) o room
 unfolding headcount
-room_ended ws l o i room f h le ge =
-    let e : i ≡ (problem_of ws).units = omega (arith, f.units_are) in
-    record { most = subst (λ (k : ℕ). (problem_of ws).crews ≤ sum_to k (only_in o counts_one) + room) e h }
+room_ended file o i room h le ge =
+    let e : i ≡ (problem file).units = omega (arith, file.filed.units_are) in
+    record { most = subst (λ (k : ℕ). (problem file).crews ≤ sum_to k (only_in o counts_one) + room) e h }
 
 -- ---- the units that need no try
 
@@ -90,17 +89,17 @@ shut_joined p u t o i s c r old l it partners is k m e = by (more_at s c r i is 
     by (inr (inl z)) = inl (ap o z ∙ it)
     by (inr (inr h)) = inr (inr (apart_barred p o i k l it (sym (partners.sets k) ∙ h)))
 
-module _ (ws xs : List ℕ) (l : Layout) (t out i s r : ℕ) (f : Filed ws l) (h : i < l.units)
-    (old : NeedlessUnits (problem_of ws) (price_in xs) t (has out) i s) where
-  inside : i < (problem_of ws).units
-  inside = omega (arith, f.units_are)
+module _ (file : File) (xs : List ℕ) (t out i s r : ℕ) (h : i < file.layout.units)
+    (old : NeedlessUnits (problem file) (price_in xs) t (has out) i s) where
+  inside : i < (problem file).units
+  inside = omega (arith, file.filed.units_are)
 
   -- unit i is out
-  pub shut_out : (b : Bool) (c : ℕ) → b ≡ has out i → b ≡ true → Priced (problem_of ws) xs → c ≡ partners_in xs i
-      → ((k : ℕ) → has r k ≡ ((has s k || eqb k i) || has c k)) → NeedlessUnits (problem_of ws) (price_in xs) t (has out) (i + 1) r
+  pub shut_out : (b : Bool) (c : ℕ) → b ≡ has out i → b ≡ true → Priced (problem file) xs → c ≡ partners_in xs i
+      → ((k : ℕ) → has r k ≡ ((has s k || eqb k i) || has c k)) → NeedlessUnits (problem file) (price_in xs) t (has out) (i + 1) r
   shut_out b c is e priced own more = record {
     needless =
-        shut_joined (problem_of ws) (price_in xs) t (has out) i s c r old.needless inside (sym is ∙ e) (rw own (priced.partners.each i inside)) more;
+        shut_joined (problem file) (price_in xs) t (has out) i s c r old.needless inside (sym is ∙ e) (rw own (priced.partners.each i inside)) more;
     own = λ k m z. by k m z (ℕ_discrete k i);
   }
     where
@@ -118,25 +117,25 @@ module _ (ws xs : List ℕ) (l : Layout) (t out i s r : ℕ) (f : Filed ws l) (h
 
   -- its price is 0
   pub shut_free : (b : Bool) (own : ℕ) → b ≡ has out i → b ≡ false → own ≡ price_in xs t i → own ≡ 0
-      → ((k : ℕ) → has r k ≡ (has s k || eqb k i)) → NeedlessUnits (problem_of ws) (price_in xs) t (has out) (i + 1) r
+      → ((k : ℕ) → has r k ≡ (has s k || eqb k i)) → NeedlessUnits (problem file) (price_in xs) t (has out) (i + 1) r
   shut_free b own is e price zero more = record {
     needless = λ k m z. by k m z (has s k) refl;
     own = λ k m z. more k ∙ or_left (has s k) (eqb k i) (lower b is e k m z);
   }
     where
-      by : (k : ℕ) → k < (problem_of ws).units → has r k ≡ true → (c : Bool) → has s k ≡ c → Needless (problem_of ws) (price_in xs) t (has out) k
+      by : (k : ℕ) → k < (problem file).units → has r k ≡ true → (c : Bool) → has s k ≡ c → Needless (problem file) (price_in xs) t (has out) k
       by k m z true q = old.needless k m q
       by k m z false q =
           let y : eqb k i ≡ true = ap (λ (c : Bool). c || eqb k i) (sym q) ∙ sym (more k) ∙ z in
           inr (inl (ap (price_in xs t) (eqb-true k i y) ∙ sym price ∙ zero))
 
   -- neither
-  pub shut_kept : (b : Bool) → b ≡ has out i → b ≡ false → NeedlessUnits (problem_of ws) (price_in xs) t (has out) (i + 1) s
+  pub shut_kept : (b : Bool) → b ≡ has out i → b ≡ false → NeedlessUnits (problem file) (price_in xs) t (has out) (i + 1) s
   shut_kept b is e = record { needless = old.needless; own = lower b is e }
 
 -- all of them
-pub shut_ended : (ws : List ℕ) (l : Layout) (u : ℕ → ℕ → ℕ) (t i s : ℕ) (o : NumSet) → Filed ws l → NeedlessUnits (problem_of ws) u t o i s → i ≤ l.units
-    → l.units ≤ i → NeedlessUnits (problem_of ws) u t o (problem_of ws).units s
-shut_ended ws l u t i s o f h le ge =
-    let e : i ≡ (problem_of ws).units = omega (arith, f.units_are) in
-    subst (λ (k : ℕ). NeedlessUnits (problem_of ws) u t o k s) e h
+pub shut_ended : (file : File) (u : ℕ → ℕ → ℕ) (t i s : ℕ) (o : NumSet) → NeedlessUnits (problem file) u t o i s → i ≤ file.layout.units
+    → file.layout.units ≤ i → NeedlessUnits (problem file) u t o (problem file).units s
+shut_ended file u t i s o h le ge =
+    let e : i ≡ (problem file).units = omega (arith, file.filed.units_are) in
+    subst (λ (k : ℕ). NeedlessUnits (problem file) u t o k s) e h

@@ -8,11 +8,11 @@ use native.Mathlib.Omega.{arith}
 use lib.ListN.{get_or, replicate}
 use Rattle.sums.specs.NumSet.{NumSet, has}
 use Rattle.sets.specs.Sets.{SETS}
-use Rattle.model.specs.declared.Layout.{Layout}
 use Rattle.model.specs.Problem.{Problem}
-use Rattle.model.specs.Words.{problem_of}
 use Rattle.model.specs.Commitment.{Pick, nothing, picked, cheapest_run, NO_RUN, full_cost, pick_cost, full_least}
 use Rattle.model.proofs.CommitmentLaws.{full_lacks}
+use Rattle.instance.specs.declared.file.File.{File}
+use Rattle.instance.specs.File.{problem}
 use Rattle.instance.specs.Filed.{Filed}
 use Rattle.commitment.proofs.ScoreLaws.{run_small}
 use Rattle.memo.specs.declared.Stored.{Stored}
@@ -32,32 +32,32 @@ use Rattle.relaxation.proofs.NodeLaws.{choose_full}
 -- ---- a value
 
 -- the cheapest run's cost is one, at any prices
-pub value_plain : (ws : List ℕ) (l : Layout) (u : ℕ → ℕ → ℕ) (t out v : ℕ) → Filed ws l → t < l.weeks → v ≡ full_least (problem_of ws) t (has out)
-    → v ≤ NO_RUN → Value (problem_of ws) u t (has out) v
-value_plain ws l u t out v f h e m =
-    let p = problem_of ws in
+pub value_plain : (file : File) (u : ℕ → ℕ → ℕ) (t out v : ℕ) → t < file.layout.weeks → v ≡ full_least (problem file) t (has out)
+    → v ≤ NO_RUN → Value (problem file) u t (has out) v
+value_plain file u t out v h e m =
+    let p = problem file in
     record {
       least = rw e (week_plain p u t (has out));
       small = m;
-      none = λ n. full_lacks p t (has out) (λ r s. omega (arith, run_small ws l t f h r)) (omega arith);
+      none = λ n. full_lacks p t (has out) (λ r s. omega (arith, run_small file t h r)) (omega arith);
       serves = λ n. omega arith;
     }
 
 -- a cheapest run of an accepted file costs no more than 4,000,000, where there is one
-run_cheap : (ws : List ℕ) (l : Layout) (t : ℕ) (a : NumSet) → Filed ws l → t < l.weeks → full_least (problem_of ws) t a < NO_RUN
-    → full_least (problem_of ws) t a ≤ 4000000
+run_cheap : (file : File) (t : ℕ) (a : NumSet) → t < file.layout.weeks → full_least (problem file) t a < NO_RUN
+    → full_least (problem file) t a ≤ 4000000
 unfolding full_least pick_cost
-run_cheap ws l t a f h = by (cheapest_run (problem_of ws) t a)
+run_cheap file t a h = by (cheapest_run (problem file) t a)
   where
-    by : (x : Pick) → pick_cost (full_cost (problem_of ws) t) x < NO_RUN → pick_cost (full_cost (problem_of ws) t) x ≤ 4000000
+    by : (x : Pick) → pick_cost (full_cost (problem file) t) x < NO_RUN → pick_cost (full_cost (problem file) t) x ≤ 4000000
     by nothing b = absurd (omega arith)
-    by (picked r) b = run_small ws l t f h r
+    by (picked r) b = run_small file t h r
 
 -- a lower bound of the week that is no more than the set itself, where there is a run; prices cannot bring it to what stands for none
-pub value_least : (ws xs : List ℕ) (l : Layout) (t out cost v : ℕ) (y : WeekNode) → WeekAt ws l xs t → cost ≡ full_least (problem_of ws) t (has out)
-    → cost < NO_RUN → RootNode (problem_of ws) (price_in xs) t out cost y → v ≤ y.value.0
-    → WeekLeast (problem_of ws) (price_in xs) y.week (has y.out) v → Value (problem_of ws) (price_in xs) t (has out) v
-value_least ws xs l t out cost v y at e less begun low least =
+pub value_least : (file : File) (xs : List ℕ) (t out cost v : ℕ) (y : WeekNode) → WeekAt file xs t → cost ≡ full_least (problem file) t (has out)
+    → cost < NO_RUN → RootNode (problem file) (price_in xs) t out cost y → v ≤ y.value.0
+    → WeekLeast (problem file) (price_in xs) y.week (has y.out) v → Value (problem file) (price_in xs) t (has out) v
+value_least file xs t out cost v y at e less begun low least =
     record {
       least = subst (λ (o : ℕ). WeekLeast p u t (has o) v) begun.same (rw begun.week at least);
       small = omega (arith, cheap, few, begun.value);
@@ -65,17 +65,17 @@ value_least ws xs l t out cost v y at e less begun low least =
       serves = λ x. omega arith;
     }
   where
-    f : Filed ws l
-    f = at.filed
+    f : Filed file.words.now file.layout
+    f = file.filed
 
     p : Problem
-    p = problem_of ws
+    p = problem file
 
     u : ℕ → ℕ → ℕ
     u = price_in xs
 
     cheap : full_least p t (has out) ≤ 4000000
-    cheap = run_cheap ws l t (has out) f at.week (omega arith)
+    cheap = run_cheap file t (has out) at.week (omega arith)
 
     few : prices_not_out u t (has out) p.units ≤ MOST_WEEK_PRICES
     few =
@@ -83,16 +83,16 @@ value_least ws xs l t out cost v y at e less begun low least =
         omega (arith, not_out_small xs t (has out) p.units at.priced.prices, mul-le-mul_right MOST_PRICE most)
 
 -- as the choice of sets ends with
-pub least_chosen : (ws xs : List ℕ) (l : Layout) (t v : ℕ) (o : NumSet) → Filed ws l → Floor (problem_of ws) (price_in xs) t o l.units v
-    → WeekLeast (problem_of ws) (price_in xs) t o v
-least_chosen ws xs l t v o f floor = floor_week (problem_of ws) (price_in xs) t o l.units v (omega (arith, f.units_are)) floor
+pub least_chosen : (file : File) (xs : List ℕ) (t v : ℕ) (o : NumSet) → Floor (problem file) (price_in xs) t o file.layout.units v
+    → WeekLeast (problem file) (price_in xs) t o v
+least_chosen file xs t v o floor = floor_week (problem file) (price_in xs) t o file.layout.units v (omega (arith, file.filed.units_are)) floor
 
 -- as where no crew is left
-pub least_full : (ws xs left memo : List ℕ) (l : Layout) (y : WeekNode) (v : ℕ) → Choosing ws l xs left y memo → y.room ≡ 0 → v ≡ y.value.0
-    → WeekLeast (problem_of ws) (price_in xs) y.week (has y.out) v
-least_full ws xs left memo l y v c z e =
-    least_chosen ws xs l y.week v (has y.out) c.at.filed
-    (choose_full ws xs y c.known l l.units c.at.filed (omega arith) v (omega arith) z)
+pub least_full : (file : File) (xs left memo : List ℕ) (y : WeekNode) (v : ℕ) → Choosing file xs left y memo → y.room ≡ 0 → v ≡ y.value.0
+    → WeekLeast (problem file) (price_in xs) y.week (has y.out) v
+least_full file xs left memo y v c z e =
+    least_chosen file xs y.week v (has y.out)
+    (choose_full file.words.now xs y c.known file.layout file.layout.units file.filed (omega arith) v (omega arith) z)
 
 -- ---- a memo of values
 

@@ -3,12 +3,12 @@
 use Rattle.std.specs.Prelude.{ℕ, ◌+◌, ◌≤◌, ◌<◌, ◌≡◌, true, ◌||◌, List, ◌⊎◌, eqb, get_or}
 use Rattle.sums.specs.Sum.{sum_to}
 use Rattle.sums.specs.NumSet.{NumSet, only_in, complement, has}
-use Rattle.model.specs.declared.Layout.{Layout}
 use Rattle.model.specs.Problem.{Problem}
-use Rattle.model.specs.Words.{problem_of}
 use Rattle.model.specs.Rules.{headcount}
 use Rattle.model.specs.Commitment.{NO_RUN, Serves, full_cost, full_least}
 use Rattle.model.specs.Plan.{Compatible}
+use Rattle.instance.specs.declared.file.File.{File}
+use Rattle.instance.specs.File.{problem}
 use Rattle.tables.specs.Tables.{MOST_WEEK_PRICES, price_in}
 use Rattle.memo.specs.Memo.{Right}
 use Rattle.relaxation.specs.Relaxed.{WeekAt}
@@ -94,10 +94,10 @@ pub record WithUnit (p : Problem) (u : ℕ → ℕ → ℕ) (i : ℕ) (y z : Wee
   pub sets : (k : ℕ) → has z.out k ≡ (has y.out k || eqb k i)
 
 -- a week before others are tried: the prices left, and what the cheapest run with just these units out costs
-pub record Beginning (ws : List ℕ) (l : Layout) (xs left : List ℕ) (t out cost : ℕ) : Type 0 where
-  pub at : WeekAt ws l xs t
-  pub sums : PricesLeft (price_in xs) t (has out) l.units left
-  pub is : cost ≡ full_least (problem_of ws) t (has out)
+pub record Beginning (file : File) (xs left : List ℕ) (t out cost : ℕ) : Type 0 where
+  pub at : WeekAt file xs t
+  pub sums : PricesLeft (price_in xs) t (has out) file.layout.units left
+  pub is : cost ≡ full_least (problem file) t (has out)
   pub small : cost < NO_RUN
 
 -- what is known of just these units
@@ -108,8 +108,8 @@ pub record RootNode (p : Problem) (u : ℕ → ℕ → ℕ) (t out cost : ℕ) (
   pub value : y.value.0 ≡ cost + prices_not_out u t (has out) p.units
 
 -- a choice that goes on from the units of y, with the prices left and a memo of least costs
-pub record Choosing (ws : List ℕ) (l : Layout) (xs left : List ℕ) (y : WeekNode) (memo : List ℕ) : Type 0 where
-  pub at : WeekAt ws l xs y.week
-  pub right : Right (problem_of ws) memo
-  pub known : NodeKnown (problem_of ws) (price_in xs) y
-  pub spare : PricesLeftAtLeast (price_in xs) y.week (has y.out) l.units left
+pub record Choosing (file : File) (xs left : List ℕ) (y : WeekNode) (memo : List ℕ) : Type 0 where
+  pub at : WeekAt file xs y.week
+  pub right : Right (problem file) memo
+  pub known : NodeKnown (problem file) (price_in xs) y
+  pub spare : PricesLeftAtLeast (price_in xs) y.week (has y.out) file.layout.units left

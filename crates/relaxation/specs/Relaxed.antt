@@ -4,20 +4,18 @@
 use Rattle.std.specs.Prelude.{ℕ, ◌+◌, ◌*◌, ◌≤◌, ◌<◌, ◌≡◌, List, get_or}
 use Rattle.sums.specs.NumSet.{NumSet, has}
 use Rattle.sets.specs.Sets.{SETS}
-use Rattle.model.specs.declared.Layout.{Layout}
 use Rattle.model.specs.Problem.{Problem}
-use Rattle.model.specs.Words.{problem_of}
 use Rattle.model.specs.Commitment.{full_least, NoRun, NO_RUN}
-use Rattle.instance.specs.Filed.{Filed}
+use Rattle.instance.specs.declared.file.File.{File}
+use Rattle.instance.specs.File.{problem}
 use Rattle.tables.specs.Tables.{Priced}
 use Rattle.memo.specs.Memo.{OTHERS, key_of, Right}
 use Rattle.blame.specs.Priced.{WeekLeast}
 
 -- week t of a file, with a table that has prices and partners
-pub record WeekAt (ws : List ℕ) (l : Layout) (xs : List ℕ) (t : ℕ) : Type 0 where
-  pub filed : Filed ws l
-  pub week : t < l.weeks
-  pub priced : Priced (problem_of ws) xs
+pub record WeekAt (file : File) (xs : List ℕ) (t : ℕ) : Type 0 where
+  pub week : t < file.layout.weeks
+  pub priced : Priced (problem file) xs
 
 -- v is at most what week t is worth with the units of a out, and others perhaps; or stands for no run
 pub record Value (p : Problem) (u : ℕ → ℕ → ℕ) (t : ℕ) (a : NumSet) (v : ℕ) : Type 0 where

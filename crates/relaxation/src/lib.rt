@@ -7,17 +7,17 @@
 
 ghost use Rattle.std.specs.Prelude.{◌≡◌, true, false, ◌+◌, ◌<◌, ◌≤◌, get_or};
 ghost use Rattle.sums.specs.NumSet.{has};
-ghost use Rattle.model.specs.Words.{problem_of};
 ghost use Rattle.model.specs.Commitment.{NO_RUN, full_least};
 ghost use Rattle.tables.specs.Tables.{MOST_WEEK_PRICES, price_in, partners_in, Prices};
 ghost use Rattle.blame.specs.Priced.{WeekLeast};
 ghost use Rattle.memo.specs.Memo.{Right, Others};
 ghost use Rattle.relaxation.specs.Relaxed.{WeekAt, Value, MemoTrue};
 ghost use Rattle.relaxation.specs.Choosing.{MOST_VALUE, Floor, Lowers, NoGain, NodeKnown, Skipped, Child, WithUnit, Beginning, RootNode, Choosing};
+ghost use Rattle.instance.specs.File.{problem};
 
-use instance::Euro;
+use instance::{Euro, File};
 use memo::Stored;
-use model::{Layout, NO_RUN};
+use model::NO_RUN;
 use sets::SETS;
 use states::WeekTask;
 use tables::TABLES;
@@ -93,7 +93,7 @@ fn no_gain(best: Euro, left: u64, value: Euro) -> bool
     if best.0 == 0 {
         return true;
     }
-    best.plus(Euro(left)).0 <= value.0
+    (best + Euro(left)).0 <= value.0
 }
 
 // Whether unit i, as the highest of further units, needs no try.
@@ -124,68 +124,43 @@ fn child(tables: &[u32; TABLES], i: usize, y: WeekNode, out: u32, cost: Euro) ->
         shut,
         room: y.room - 1,
         rest,
-        value: cost.plus(rest),
+        value: cost + rest,
     }
 }
 
 // The set with unit i out as well.
-fn with_unit(
-    words: &[u32],
-    l: Layout,
-    tables: &[u32; TABLES],
-    i: usize,
-    y: WeekNode,
-    memo: &mut [u32],
-) -> WeekNode
-    requires { WeekAt words.now l tables.now y.week × Right (problem_of words.now) memo.old
-        × NodeKnown (problem_of words.now) (price_in tables.now) y × (i < l.units) × (0 < y.room) × (has y.shut i ≡ false) }
-    ensures answer { WithUnit (problem_of words.now) (price_in tables.now) i y result }
-    ensures right { Right (problem_of words.now) memo.new × Others memo.old memo.new }
+fn with_unit(file: &File, tables: &[u32; TABLES], i: usize, y: WeekNode, memo: &mut [u32]) -> WeekNode
+    requires { WeekAt file.now tables.now y.week × Right (problem file.now) memo.old
+        × NodeKnown (problem file.now) (price_in tables.now) y × (i < file.now.layout.units) × (0 < y.room) × (has y.shut i ≡ false) }
+    ensures answer { WithUnit (problem file.now) (price_in tables.now) i y result }
+    ensures right { Right (problem file.now) memo.new × Others memo.old memo.new }
 {
     let out = sets::with(y.out, i);
-    let cost = memo::full_least(words, l, y.week, out, memo);
+    let cost = memo::full_least(file, y.week, out, memo);
     child(tables, i, y, out, cost)
 }
 
 // The best so far, or a better choice in which unit i is the highest of the further units out.
 #[cycle(choose_choose_with)]
-fn choose_with(
-    words: &[u32],
-    l: Layout,
-    tables: &[u32; TABLES],
-    left: &[u64; 17],
-    i: usize,
-    y: WeekNode,
-    low: WeekChoice,
-    memo: &mut [u32],
-) -> WeekChoice
-    requires { Choosing words.now l tables.now left.now y memo.old × (i < l.units) × (0 < y.room) × (low.value.0 ≤ y.value.0) }
-    ensures answer { Lowers (problem_of words.now) (price_in tables.now) y.week (has y.out) i low.value.0 result.value.0 }
-    ensures right { Right (problem_of words.now) memo.new × Others memo.old memo.new }
+fn choose_with(file: &File, tables: &[u32; TABLES], left: &[u64; 17], i: usize, y: WeekNode, low: WeekChoice, memo: &mut [u32]) -> WeekChoice
+    requires { Choosing file.now tables.now left.now y memo.old × (i < file.now.layout.units) × (0 < y.room) × (low.value.0 ≤ y.value.0) }
+    ensures answer { Lowers (problem file.now) (price_in tables.now) y.week (has y.out) i low.value.0 result.value.0 }
+    ensures right { Right (problem file.now) memo.new × Others memo.old memo.new }
 {
     if passed_over(left, i, y, low.value) {
         return low;
     }
-    let z = with_unit(words, l, tables, i, y, memo);
-    choose(words, l, tables, left, i, z, low, memo)
+    let z = with_unit(file, tables, i, y, memo);
+    choose(file, tables, left, i, z, low, memo)
 }
 
 // The best so far, or a better choice with the units of y and further ones below k.
 #[cycle(choose_choose_with)]
-fn choose(
-    words: &[u32],
-    l: Layout,
-    tables: &[u32; TABLES],
-    left: &[u64; 17],
-    k: usize,
-    y: WeekNode,
-    best: WeekChoice,
-    memo: &mut [u32],
-) -> WeekChoice
-    requires { Choosing words.now l tables.now left.now y memo.old × (k ≤ l.units) }
-    ensures answer { Floor (problem_of words.now) (price_in tables.now) y.week (has y.out) k result.value.0 }
+fn choose(file: &File, tables: &[u32; TABLES], left: &[u64; 17], k: usize, y: WeekNode, best: WeekChoice, memo: &mut [u32]) -> WeekChoice
+    requires { Choosing file.now tables.now left.now y memo.old × (k ≤ file.now.layout.units) }
+    ensures answer { Floor (problem file.now) (price_in tables.now) y.week (has y.out) k result.value.0 }
     ensures less { result.value.0 ≤ best.value.0 }
-    ensures right { Right (problem_of words.now) memo.new × Others memo.old memo.new }
+    ensures right { Right (problem file.now) memo.new × Others memo.old memo.new }
 {
     let mut low = better(best, y);
     if y.room == 0 {
@@ -196,68 +171,46 @@ fn choose(
     }
     // Each time round, `low` is at most what the week is worth with any set whose further units lie below i.
     for i in 0..k {
-        low = choose_with(words, l, tables, left, i, y, low, memo);
+        low = choose_with(file, tables, left, i, y, low, memo);
     }
     low
 }
 
 // The set of units that are out, at the cost of its cheapest run, before others are tried.
-fn root(
-    words: &[u32],
-    l: Layout,
-    tables: &[u32; TABLES],
-    left: &[u64; 17],
-    t: usize,
-    out: u32,
-    cost: Euro,
-) -> WeekNode
-    requires { Beginning words.now l tables.now left.now t out cost.0 }
-    ensures { RootNode (problem_of words.now) (price_in tables.now) t out cost.0 result }
+fn root(file: &File, tables: &[u32; TABLES], left: &[u64; 17], t: usize, out: u32, cost: Euro) -> WeekNode
+    requires { Beginning file.now tables.now left.now t out cost.0 }
+    ensures { RootNode (problem file.now) (price_in tables.now) t out cost.0 result }
 {
-    let units = l.units;
+    let units = file.layout.units;
     let rest = Euro(left[units]);
-    let shut = start::shut_units(words, l, tables, t, out);
-    let room = start::room_left(words, l, out);
+    let shut = start::shut_units(file, tables, t, out);
+    let room = start::room_left(file, out);
     WeekNode {
         week: t,
         out,
         shut,
         room,
         rest,
-        value: cost.plus(rest),
+        value: cost + rest,
     }
 }
 
 // What a week is worth with the units of y out, and others perhaps, by the choice of sets; 0 where it was given up.
-fn choose_by_sets(
-    words: &[u32],
-    l: Layout,
-    tables: &[u32; TABLES],
-    left: &[u64; 17],
-    y: WeekNode,
-    sets: u32,
-    memo: &mut [u32],
-) -> WeekChoice
-    requires { Choosing words.now l tables.now left.now y memo.old }
-    ensures answer { WeekLeast (problem_of words.now) (price_in tables.now) y.week (has y.out) result.value.0
+fn choose_by_sets(file: &File, tables: &[u32; TABLES], left: &[u64; 17], y: WeekNode, sets: u32, memo: &mut [u32]) -> WeekChoice
+    requires { Choosing file.now tables.now left.now y memo.old }
+    ensures answer { WeekLeast (problem file.now) (price_in tables.now) y.week (has y.out) result.value.0
         × (result.value.0 ≤ y.value.0) }
-    ensures right { Right (problem_of words.now) memo.new × Others memo.old memo.new }
+    ensures right { Right (problem file.now) memo.new × Others memo.old memo.new }
 {
     let own = week_choice(y.value, y.out, sets);
-    choose(words, l, tables, left, l.units, y, own, memo)
+    choose(file, tables, left, file.layout.units, y, own, memo)
 }
 
 // What a week is worth at least with the units of y out, and others perhaps, by three states for each unit. The value of y itself is what the search
 // has to get below, so that no more comes of it.
-fn choose_by_states(
-    words: &[u32],
-    l: Layout,
-    tables: &[u32; TABLES],
-    y: WeekNode,
-    nodes: u64,
-) -> WeekChoice
-    requires { WeekAt words.now l tables.now y.week × NodeKnown (problem_of words.now) (price_in tables.now) y }
-    ensures { WeekLeast (problem_of words.now) (price_in tables.now) y.week (has y.out) result.value.0
+fn choose_by_states(file: &File, tables: &[u32; TABLES], y: WeekNode, nodes: u64) -> WeekChoice
+    requires { WeekAt file.now tables.now y.week × NodeKnown (problem file.now) (price_in tables.now) y }
+    ensures { WeekLeast (problem file.now) (price_in tables.now) y.week (has y.out) result.value.0
         × (result.value.0 ≤ y.value.0) }
 {
     let most = y.value;
@@ -269,7 +222,7 @@ fn choose_by_states(
         most,
         fuel: nodes,
     };
-    let found = states::week_least(words, l, tables, w);
+    let found = states::week_least(file, tables, w);
     let value = found.value;
     let spent = words::saturating_sub(nodes, found.fuel);
     WeekChoice {
@@ -282,66 +235,41 @@ fn choose_by_states(
 
 // What a week is worth at least with the units of y out, and others perhaps: just these where no crew is left, else by sets, and where that is given
 // up by states.
-fn choose_any(
-    words: &[u32],
-    l: Layout,
-    tables: &[u32; TABLES],
-    left: &[u64; 17],
-    y: WeekNode,
-    effort: Effort,
-    memo: &mut [u32],
-) -> WeekChoice
-    requires { Choosing words.now l tables.now left.now y memo.old }
-    ensures answer { WeekLeast (problem_of words.now) (price_in tables.now) y.week (has y.out) result.value.0
+fn choose_any(file: &File, tables: &[u32; TABLES], left: &[u64; 17], y: WeekNode, effort: Effort, memo: &mut [u32]) -> WeekChoice
+    requires { Choosing file.now tables.now left.now y memo.old }
+    ensures answer { WeekLeast (problem file.now) (price_in tables.now) y.week (has y.out) result.value.0
         × (result.value.0 ≤ y.value.0) }
-    ensures right { Right (problem_of words.now) memo.new × Others memo.old memo.new }
+    ensures right { Right (problem file.now) memo.new × Others memo.old memo.new }
 {
     if y.room == 0 {
         return week_choice(y.value, y.out, effort.sets);
     }
-    let c = choose_by_sets(words, l, tables, left, y, effort.sets, memo);
+    let c = choose_by_sets(file, tables, left, y, effort.sets, memo);
     if 0 < c.value.0 {
         return c;
     }
-    choose_by_states(words, l, tables, y, effort.nodes)
+    choose_by_states(file, tables, y, effort.nodes)
 }
 
 // What week t is worth with these units out, and others perhaps, where their cheapest run costs so much.
-fn choice_from(
-    words: &[u32],
-    l: Layout,
-    tables: &[u32; TABLES],
-    t: usize,
-    out: u32,
-    cost: Euro,
-    effort: Effort,
-    memo: &mut [u32],
-) -> WeekChoice
-    requires { WeekAt words.now l tables.now t × Right (problem_of words.now) memo.old × (cost.0 ≡ full_least (problem_of words.now) t (has out))
+fn choice_from(file: &File, tables: &[u32; TABLES], t: usize, out: u32, cost: Euro, effort: Effort, memo: &mut [u32]) -> WeekChoice
+    requires { WeekAt file.now tables.now t × Right (problem file.now) memo.old × (cost.0 ≡ full_least (problem file.now) t (has out))
         × (cost.0 < NO_RUN) }
-    ensures answer { Value (problem_of words.now) (price_in tables.now) t (has out) result.value.0 }
-    ensures right { Right (problem_of words.now) memo.new × Others memo.old memo.new }
+    ensures answer { Value (problem file.now) (price_in tables.now) t (has out) result.value.0 }
+    ensures right { Right (problem file.now) memo.new × Others memo.old memo.new }
 {
-    let left = start::prices_left(tables, l.units, t, out);
-    let y = root(words, l, tables, &left, t, out, cost);
-    choose_any(words, l, tables, &left, y, effort, memo)
+    let left = start::prices_left(tables, file.layout.units, t, out);
+    let y = root(file, tables, &left, t, out, cost);
+    choose_any(file, tables, &left, y, effort, memo)
 }
 
 // What week t is worth with these units out, and others perhaps, computed from the least costs alone. The set is advice.
-pub fn best_choice(
-    words: &[u32],
-    l: Layout,
-    tables: &[u32; TABLES],
-    t: usize,
-    out: u32,
-    effort: Effort,
-    memo: &mut [u32],
-) -> WeekChoice
-    requires { WeekAt words.now l tables.now t × Right (problem_of words.now) memo.old }
-    ensures answer { Value (problem_of words.now) (price_in tables.now) t (has out) result.value.0 }
-    ensures right { Right (problem_of words.now) memo.new × Others memo.old memo.new }
+pub fn best_choice(file: &File, tables: &[u32; TABLES], t: usize, out: u32, effort: Effort, memo: &mut [u32]) -> WeekChoice
+    requires { WeekAt file.now tables.now t × Right (problem file.now) memo.old }
+    ensures answer { Value (problem file.now) (price_in tables.now) t (has out) result.value.0 }
+    ensures right { Right (problem file.now) memo.new × Others memo.old memo.new }
 {
-    let cost = memo::full_least(words, l, t, out, memo);
+    let cost = memo::full_least(file, t, out, memo);
     if NO_RUN <= cost.0 {
         return WeekChoice {
             value: cost,
@@ -350,51 +278,37 @@ pub fn best_choice(
             nodes: 0,
         };
     }
-    choice_from(words, l, tables, t, out, cost, effort, memo)
+    choice_from(file, tables, t, out, cost, effort, memo)
 }
 
 // ---- values kept
 
 // What week t is worth with these units out, and others perhaps, computed for a walk.
-fn computed_value(
-    words: &[u32],
-    l: Layout,
-    tables: &[u32; TABLES],
-    t: usize,
-    out: u32,
-    memo: &mut [u32],
-) -> Euro
-    requires { WeekAt words.now l tables.now t × Right (problem_of words.now) memo.old }
-    ensures answer { Value (problem_of words.now) (price_in tables.now) t (has out) result.0 }
-    ensures right { Right (problem_of words.now) memo.new × Others memo.old memo.new }
+fn computed_value(file: &File, tables: &[u32; TABLES], t: usize, out: u32, memo: &mut [u32]) -> Euro
+    requires { WeekAt file.now tables.now t × Right (problem file.now) memo.old }
+    ensures answer { Value (problem file.now) (price_in tables.now) t (has out) result.0 }
+    ensures right { Right (problem file.now) memo.new × Others memo.old memo.new }
 {
     let effort = asked::walk_effort(tables, t, out);
-    let c = best_choice(words, l, tables, t, out, effort, memo);
+    let c = best_choice(file, tables, t, out, effort, memo);
     c.value
 }
 
 // What week t is worth with these units out, and others perhaps: from the memo, or computed and kept there (D75).
-pub fn week_value(
-    words: &[u32],
-    l: Layout,
-    tables: &[u32; TABLES],
-    t: usize,
-    out: u32,
-    memo: &mut [u32],
-) -> Euro
-    requires { WeekAt words.now l tables.now t × MemoTrue (problem_of words.now) (price_in tables.now) memo.old }
-    ensures answer { Value (problem_of words.now) (price_in tables.now) t (has out) result.0 }
-    ensures recalls { MemoTrue (problem_of words.now) (price_in tables.now) memo.new }
+pub fn week_value(file: &File, tables: &[u32; TABLES], t: usize, out: u32, memo: &mut [u32]) -> Euro
+    requires { WeekAt file.now tables.now t × MemoTrue (problem file.now) (price_in tables.now) memo.old }
+    ensures answer { Value (problem file.now) (price_in tables.now) t (has out) result.0 }
+    ensures recalls { MemoTrue (problem file.now) (price_in tables.now) memo.new }
 {
     if SETS <= out {
-        return computed_value(words, l, tables, t, out, memo);
+        return computed_value(file, tables, t, out, memo);
     }
     let key = asked::value_key(t, out);
     let found = memo::lookup(memo, key);
     if let Stored::Word(word) = found {
         return Euro(word as u64);
     }
-    let value = computed_value(words, l, tables, t, out, memo);
+    let value = computed_value(file, tables, t, out, memo);
     memo::keep(memo, key, value.0 as u32);
     value
 }

@@ -2,13 +2,12 @@
 ghost use Rattle.std.specs.Prelude.{◌≡◌, ◌||◌, ℕ, ◌+◌, ◌<◌, ◌≤◌, eqb};
 ghost use Rattle.sums.specs.Sum.{counts_one};
 ghost use Rattle.sums.specs.NumSet.{has, only_in, complement};
-ghost use Rattle.model.specs.Words.{problem_of};
-ghost use Rattle.instance.specs.Filed.{Filed};
 ghost use Rattle.tables.specs.Tables.{MOST_WEEK_PRICES, price_in, Prices};
 ghost use Rattle.relaxation.specs.Relaxed.{WeekAt};
 ghost use Rattle.relaxation.specs.Choosing.{NeedlessUnits, PricesLeft, CrewsLeft};
+ghost use Rattle.instance.specs.File.{problem};
 
-use model::Layout;
+use instance::File;
 use tables::TABLES;
 
 // A sum of prices, with that of unit i in week t unless it is out.
@@ -49,12 +48,11 @@ fn room_after(out: u32, i: usize, room: usize) -> usize
 }
 
 // How many more units the crews allow out.
-pub fn room_left(words: &[u32], l: Layout, out: u32) -> usize
-    requires { Filed words.now l }
-    ensures { CrewsLeft (problem_of words.now) (has out) result }
+pub fn room_left(file: &File, out: u32) -> usize
+    ensures { CrewsLeft (problem file.now) (has out) result }
 {
-    let units = l.units;
-    let mut room = instance::crews(words, l);
+    let units = file.layout.units;
+    let mut room = file.crews();
     for i in 0..units {
         room = room_after(out, i, room);
     }
@@ -70,17 +68,9 @@ pub fn shut_more(shut: u32, i: usize, partners: u32) -> u32
 }
 
 // What unit i adds to the units that need no try: itself and its partners where it is out, itself where its price is 0.
-fn shut_after(
-    words: &[u32],
-    l: Layout,
-    tables: &[u32; TABLES],
-    t: usize,
-    out: u32,
-    i: usize,
-    shut: u32,
-) -> u32
-    requires { WeekAt words.now l tables.now t × (i < l.units) × NeedlessUnits (problem_of words.now) (price_in tables.now) t (has out) i shut }
-    ensures { NeedlessUnits (problem_of words.now) (price_in tables.now) t (has out) (i + 1) result }
+fn shut_after(file: &File, tables: &[u32; TABLES], t: usize, out: u32, i: usize, shut: u32) -> u32
+    requires { WeekAt file.now tables.now t × (i < file.now.layout.units) × NeedlessUnits (problem file.now) (price_in tables.now) t (has out) i shut }
+    ensures { NeedlessUnits (problem file.now) (price_in tables.now) t (has out) (i + 1) result }
 {
     if sets::has(out, i) {
         return shut_more(shut, i, tables::partners(tables, i));
@@ -93,14 +83,14 @@ fn shut_after(
 }
 
 // The units that need no try with these out.
-pub fn shut_units(words: &[u32], l: Layout, tables: &[u32; TABLES], t: usize, out: u32) -> u32
-    requires { WeekAt words.now l tables.now t }
-    ensures { NeedlessUnits (problem_of words.now) (price_in tables.now) t (has out) (problem_of words.now).units result }
+pub fn shut_units(file: &File, tables: &[u32; TABLES], t: usize, out: u32) -> u32
+    requires { WeekAt file.now tables.now t }
+    ensures { NeedlessUnits (problem file.now) (price_in tables.now) t (has out) (problem file.now).units result }
 {
-    let units = l.units;
+    let units = file.layout.units;
     let mut shut = 0;
     for i in 0..units {
-        shut = shut_after(words, l, tables, t, out, i, shut);
+        shut = shut_after(file, tables, t, out, i, shut);
     }
     shut
 }

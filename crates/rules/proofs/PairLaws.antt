@@ -13,7 +13,7 @@ use Rattle.sums.proofs.LoopLaws.{table_broken}
 use Rattle.model.specs.Problem.{Problem}
 use Rattle.model.specs.Grid.{States, is_maint}
 use Rattle.model.specs.Rules.{ok8, keeps8}
-use Rattle.rules.specs.Gridded.{FirstOut, EndOut}
+use Rattle.rules.specs.Spans.{FirstOut, EndOut}
 
 -- the first n pairs keep (8) in every week
 pub record PairsKept (p : Problem) (x : States) (n : ℕ) : Type 0 where

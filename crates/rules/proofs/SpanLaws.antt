@@ -17,7 +17,7 @@ use Rattle.sums.proofs.RangeLaws.{all_at, all_of, table_at, table_of, some_of, f
 use Rattle.model.specs.Problem.{Problem}
 use Rattle.model.specs.Grid.{States, is_maint}
 use Rattle.model.specs.Rules.{ok4, unit4, not_out, not_later, is_first, is_last, ok5, unit5, out_at, unit6}
-use Rattle.rules.specs.Gridded.{FirstOut, EndOut}
+use Rattle.rules.specs.Spans.{FirstOut, EndOut}
 
 -- ---- a week of maintenance, by the state r that the code reads
 

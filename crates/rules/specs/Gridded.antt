@@ -1,23 +1,8 @@
--- What the tests of the formulas ask of a file's words, a grid's bytes and the layout, and the weeks between which a unit is in maintenance.
+-- What a grid says.
 -- Assumes nothing.
-use Rattle.std.specs.Prelude.{ℕ, ◌*◌, ◌-◌, ◌≤◌, ◌<◌, ◌≡◌, true, false, List, length}
-use Rattle.model.specs.declared.Layout.{Layout}
-use Rattle.model.specs.Grid.{States, is_maint}
-use Rattle.instance.specs.Filed.{Filed}
+use Rattle.model.specs.Grid.{States, cell}
+use Rattle.rules.specs.declared.grid.Grid.{Grid}
 
--- the words are an accepted file with layout l, and the grid has a byte for each week and unit
-pub record Gridded (ws g : List ℕ) (l : Layout) : Type 0 where
-  pub filed : Filed ws l
-  pub full : length g ≡ l.weeks * l.units
-
--- a is the first of w weeks in which unit i is in maintenance, w where there is none
-pub record FirstOut (w : ℕ) (x : States) (i a : ℕ) : Type 0 where
-  pub most : a ≤ w
-  pub none : (t : ℕ) → t < a → is_maint x t i ≡ false
-  pub out : a < w → is_maint x a i ≡ true
-
--- b is the week after the last of them, 0 where there is none
-pub record EndOut (w : ℕ) (x : States) (i b : ℕ) : Type 0 where
-  pub most : b ≤ w
-  pub none : (t : ℕ) → b ≤ t → t < w → is_maint x t i ≡ false
-  pub out : 0 < b → is_maint x (b - 1) i ≡ true
+-- the state of each unit in each week
+abbrev pub states : Grid → States
+states g = cell g.file.layout.units g.cells.now

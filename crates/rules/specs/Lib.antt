@@ -1,2 +1,4 @@
--- what the tests ask, and first and last weeks of maintenance
+-- what a grid says
 pub mod Gridded
+-- first and last weeks of maintenance
+pub mod Spans

@@ -1,36 +1,32 @@
 // Formulas (2) and (3): no unit is in maintenance in a week that is too early or too late for it.
 ghost use Rattle.std.specs.Prelude.{◌≡◌, ◌<◌};
-ghost use Rattle.model.specs.Words.{problem_of};
-ghost use Rattle.model.specs.Grid.{cell};
 ghost use Rattle.model.specs.Rules as formulas;
-ghost use Rattle.rules.specs.Gridded.{Gridded};
+ghost use Rattle.instance.specs.File.{problem};
+ghost use Rattle.rules.specs.Gridded.{states};
 
-use crate::state;
-use model::Layout;
+use crate::Grid;
 
 // (2) for unit i in week t.
-fn not_early(words: &[u32], grid: &[u8], l: Layout, t: usize, i: usize) -> bool
-    requires gridded { Gridded words.now grid.now l }
-    requires t_lt_weeks { (t < l.weeks) × (i < l.units) }
-    ensures { result ≡ formulas.ok2 (problem_of words.now) (cell l.units grid.now) t i }
+fn not_early(grid: &Grid, t: usize, i: usize) -> bool
+    requires { (t < grid.now.file.layout.weeks) × (i < grid.now.file.layout.units) }
+    ensures { result ≡ formulas.ok2 (problem grid.now.file) (states grid.now) t i }
 {
-    if state(grid, l, t, i) != 2 {
+    if grid.state(t, i) != 2 {
         return true;
     }
-    instance::earliest(words, l, i) <= t + 1
+    grid.file.earliest(i) <= t + 1
 }
 
 // (2) no unit is in maintenance before its earliest start.
-pub fn keeps2(words: &[u32], grid: &[u8], l: Layout) -> bool
-    requires { Gridded words.now grid.now l }
-    ensures { result ≡ formulas.keeps2 (problem_of words.now) (cell l.units grid.now) }
+pub fn keeps2(grid: &Grid) -> bool
+    ensures { result ≡ formulas.keeps2 (problem grid.now.file) (states grid.now) }
 {
-    let weeks = l.weeks;
-    let units = l.units;
+    let weeks = grid.file.layout.weeks;
+    let units = grid.file.layout.units;
     let mut ok = true;
     'early: for t in 0..weeks {
         for i in 0..units {
-            if !not_early(words, grid, l, t, i) {
+            if !not_early(grid, t, i) {
                 ok = false;
                 break 'early;
             }
@@ -40,30 +36,28 @@ pub fn keeps2(words: &[u32], grid: &[u8], l: Layout) -> bool
 }
 
 // (3) for unit i in week t.
-fn not_late(words: &[u32], grid: &[u8], l: Layout, t: usize, i: usize) -> bool
-    requires gridded { Gridded words.now grid.now l }
-    requires t_lt_weeks { (t < l.weeks) × (i < l.units) }
-    ensures { result ≡ formulas.ok3 (problem_of words.now) (cell l.units grid.now) t i }
+fn not_late(grid: &Grid, t: usize, i: usize) -> bool
+    requires { (t < grid.now.file.layout.weeks) × (i < grid.now.file.layout.units) }
+    ensures { result ≡ formulas.ok3 (problem grid.now.file) (states grid.now) t i }
 {
-    if state(grid, l, t, i) != 2 {
+    if grid.state(t, i) != 2 {
         return true;
     }
-    let latest = instance::latest(words, l, i);
-    let duration = instance::duration(words, l, i);
+    let latest = grid.file.latest(i);
+    let duration = grid.file.duration(i);
     t + 1 < latest + duration
 }
 
 // (3) no unit is in maintenance after the overhaul that begins at its latest start.
-pub fn keeps3(words: &[u32], grid: &[u8], l: Layout) -> bool
-    requires { Gridded words.now grid.now l }
-    ensures { result ≡ formulas.keeps3 (problem_of words.now) (cell l.units grid.now) }
+pub fn keeps3(grid: &Grid) -> bool
+    ensures { result ≡ formulas.keeps3 (problem grid.now.file) (states grid.now) }
 {
-    let weeks = l.weeks;
-    let units = l.units;
+    let weeks = grid.file.layout.weeks;
+    let units = grid.file.layout.units;
     let mut ok = true;
     'late: for t in 0..weeks {
         for i in 0..units {
-            if !not_late(words, grid, l, t, i) {
+            if !not_late(grid, t, i) {
                 ok = false;
                 break 'late;
             }

@@ -5,54 +5,43 @@
 #![tactic(auto)]
 
 ghost use Rattle.std.specs.Prelude.{◌≡◌, ◌*◌, ◌<◌, ◌≤◌, length};
-ghost use Rattle.model.specs.Words.{problem_of};
-ghost use Rattle.model.specs.Grid.{cell};
 ghost use Rattle.model.specs.Rules as formulas;
-ghost use Rattle.rules.specs.Gridded.{Gridded};
+ghost use Rattle.instance.specs.File.{problem};
+ghost use Rattle.rules.specs.Gridded.{states};
 
-use model::Layout;
+pub use grid::Grid;
 
 mod cells;
+mod grid;
 mod spans;
 mod weekly;
 
-// The state of unit i in week t: 0 OFF, 1 ON, 2 MAINT.
-pub fn state(grid: &[u8], l: Layout, t: usize, i: usize) -> u8
-    requires grid_len { (length grid.now ≡ l.weeks * l.units) × (l.weeks * l.units ≤ 832) }
-    requires t_lt_weeks { (t < l.weeks) × (i < l.units) }
-    ensures { result ≡ cell l.units grid.now t i }
-{
-    let q = instance::cell_place(l, t, i);
-    grid[q]
-}
-
 // The smallest number among the formulas broken, 0 for none.
-pub fn broken(words: &[u32], grid: &[u8], l: Layout) -> u32
-    requires { Gridded words.now grid.now l }
-    ensures { result ≡ formulas.broken (problem_of words.now) (cell l.units grid.now) }
+pub fn broken(grid: &Grid) -> u32
+    ensures { result ≡ formulas.broken (problem grid.now.file) (states grid.now) }
 {
-    if !weekly::keeps1(words, grid, l) {
+    if !weekly::keeps1(grid) {
         return 1;
     }
-    if !cells::keeps2(words, grid, l) {
+    if !cells::keeps2(grid) {
         return 2;
     }
-    if !cells::keeps3(words, grid, l) {
+    if !cells::keeps3(grid) {
         return 3;
     }
-    if !spans::keeps4(words, grid, l) {
+    if !spans::keeps4(grid) {
         return 4;
     }
-    if !spans::keeps5(words, grid, l) {
+    if !spans::keeps5(grid) {
         return 5;
     }
-    if !spans::keeps6(words, grid, l) {
+    if !spans::keeps6(grid) {
         return 6;
     }
-    if !weekly::keeps7(words, grid, l) {
+    if !weekly::keeps7(grid) {
         return 7;
     }
-    if !spans::keeps8(words, grid, l) {
+    if !spans::keeps8(grid) {
         return 8;
     }
     0

@@ -14,7 +14,6 @@ use Rattle.sums.proofs.LogicLaws.{true_false}
 use Rattle.sums.proofs.RangeLaws.{first_is}
 use Rattle.sums.proofs.NumSetLaws.{zero_has}
 use Rattle.sums.proofs.CountLaws.{count_less}
-use Rattle.model.specs.declared.Layout.{Layout}
 use Rattle.model.specs.Problem.{Problem, Fair}
 use Rattle.model.specs.Words.{problem_of}
 use Rattle.model.specs.Domain.{permitted, starts_below, start_count}
@@ -25,8 +24,9 @@ use Rattle.model.specs.Answer.{optimal, Correct}
 use Rattle.model.specs.Asks.{concludes}
 use Rattle.model.proofs.DomainLaws.{permits_below}
 use Rattle.model.proofs.FileLaws.{ranged, fair}
+use Rattle.instance.specs.declared.file.File.{File}
+use Rattle.instance.specs.File.{problem}
 use Rattle.instance.specs.declared.Euro.{Euro}
-use Rattle.instance.specs.Filed.{Filed}
 use Rattle.nogood.specs.Noting.{KEPT_FREE, end_bounds, end_used, ended}
 use Rattle.nogood.specs.Stock.{Stock, Grown, DeadEnds}
 use Rattle.nogood.proofs.StockLaws.{grown_next, stock_ended, ended_room, ended_length}
@@ -80,47 +80,44 @@ finished_none ws w st step none is = subst (Finished (problem_of ws) w w st) (sy
 })
 
 -- a unit has no permitted start
-pub finished_startless : (ws : List ℕ) (l : Layout) (us w memo : List ℕ) (st : State) (some shown : Bool) (step : Step) → SearchDue ws l us st shown w memo
-    → some ≡ some_startless (problem_of ws) → some ≡ true → step ≡ dead_at st 0 → SearchDone (problem_of ws) w w st step shown
-finished_startless ws l us w memo st some shown step d e so is = record {
-  finished = finished_none ws w st step (record {
-    never = startless_none (problem_of ws) (fair ws d.walk.walking.filed.passed) (sym e ∙ so);
+pub finished_startless : (file : File) (us w memo : List ℕ) (st : State) (some shown : Bool) (step : Step) → SearchDue file us st shown w memo
+    → some ≡ some_startless (problem file) → some ≡ true → step ≡ dead_at st 0 → SearchDone (problem file) w w st step shown
+finished_startless file us w memo st some shown step d e so is = record {
+  finished = finished_none file.words.now w st step (record {
+    never = startless_none (problem file) (fair file.words.now file.filed.passed) (sym e ∙ so);
   }) is;
   none = d.none;
 }
 
 -- it is known that there is no schedule
-pub finished_shown : (ws : List ℕ) (l : Layout) (us w memo : List ℕ) (st : State) (shown : Bool) (step : Step) → SearchDue ws l us st shown w memo
-    → shown ≡ true → step ≡ dead_at st 0 → SearchDone (problem_of ws) w w st step shown
-finished_shown ws l us w memo st shown step d so is = record { finished = finished_none ws w st step (d.none.none so) is; none = d.none }
+pub finished_shown : (file : File) (us w memo : List ℕ) (st : State) (shown : Bool) (step : Step) → SearchDue file us st shown w memo
+    → shown ≡ true → step ≡ dead_at st 0 → SearchDone (problem file) w w st step shown
+finished_shown file us w memo st shown step d so is = record { finished = finished_none file.words.now w st step (d.none.none so) is; none = d.none }
 
 -- ---- a walk that does
 
-module _ (ws : List ℕ) (l : Layout) (us w memo : List ℕ) (st : State) (d : WalkDue ws l us st w memo) where
-  f : Filed ws l
-  f = d.walking.filed
-
+module _ (file : File) (us w memo : List ℕ) (st : State) (d : WalkDue file us st w memo) where
   -- what the root asks
-  pub walk_root : RootDue ws l us st.limit.0
-  walk_root = record { filed = f; dual = d.walking.dual; small = d.fresh.small }
+  pub walk_root : RootDue file us st.limit.0
+  walk_root = record { dual = d.walking.dual; small = d.fresh.small }
 
-  module _ (v : Result Euro ℕ) (said : Rooted (problem_of ws) us st.limit.0 v) where
+  module _ (v : Result Euro ℕ) (said : Rooted (problem file) us st.limit.0 v) where
     -- before any unit is placed nothing is left below the limit
-    pub walk_fails : (b : ℕ) (step : Step) → v ≡ Err b → step ≡ dead_at st 0 → Finished (problem_of ws) w w st step
+    pub walk_fails : (b : ℕ) (step : Step) → v ≡ Err b → step ≡ dead_at st 0 → Finished (problem file) w w st step
     walk_fails b step e is =
-        let h : AllBlame (problem_of ws) st.limit.0 b = subst (Rooted (problem_of ws) us st.limit.0) e said in
-        subst (Finished (problem_of ws) w w st) (sym is) (record {
-          later = later_same (problem_of ws) w st;
-          closes = blame_nobody (problem_of ws) (λ i. 0) st.limit.0 b (h.each (λ i. 0));
+        let h : AllBlame (problem file) st.limit.0 b = subst (Rooted (problem file) us st.limit.0) e said in
+        subst (Finished (problem file) w w st) (sym is) (record {
+          later = later_same (problem file) w st;
+          closes = blame_nobody (problem file) (λ i. 0) st.limit.0 b (h.each (λ i. 0));
         })
 
     -- no unit is placed
     pub walk_places : (c : Euro) (rows ys : List ℕ) (at : Visit) → v ≡ Ok c → rows ≡ replicate 52 0 → RootValues us ys → AtRoot c.0 st at
-        → PlaceDue ws l us rows ys at w memo
+        → PlaceDue file us rows ys at w memo
     unfolding PlaceDue
     walk_places c rows ys at e none fronts root =
-        let g = ranged ws f.passed in
-        let stands : AllStand (problem_of ws) us ys c.0 = subst (Rooted (problem_of ws) us st.limit.0) e said ys fronts in
+        let g = ranged file.words.now file.filed.passed in
+        let stands : AllStand (problem file) us ys c.0 = subst (Rooted (problem file) us st.limit.0) e said ys fronts in
         record {
           walking = d.walking;
           open_at = record {
@@ -128,8 +125,8 @@ module _ (ws : List ℕ) (l : Layout) (us w memo : List ℕ) (st : State) (d : W
             long = omega (arith, root.long, g.units_most);
             order = record { each = λ i. rw (root.nobody, root.none) (zero_has i ∙ sym (le-ltb i 0 (omega arith))) };
             stands = rw (root.nobody, root.bound_is) (stands.each (entry at.node.starts));
-            tallied = rw root.nobody (rows_none (problem_of ws) (entry at.node.starts) rows none);
-            settled = record { costs = λ s sound l. nobody_below (subst (λ (k : ℕ). l.at < k) root.none l.below) };
+            tallied = rw root.nobody (rows_none (problem file) (entry at.node.starts) rows none);
+            settled = record { costs = λ s sound u. nobody_below (subst (λ (k : ℕ). u.at < k) root.none u.below) };
             past = λ q. true_false (sym q ∙ (ap (λ (x : State). x.found) root.same ∙ d.fresh.nothing));
             counted = omega (arith, ap (λ (x : State). x.tries) root.same, d.fresh.tries);
             small = rw root.same d.fresh.small;
@@ -265,39 +262,38 @@ module _ (p : Problem) (ceiling budget used : ℕ) (w w' : List ℕ) (st : State
             (asked_spent m e d.1)
 
 -- what a reply is made from
-pub ask_searched : (ws : List ℕ) (l : Layout) (us : List ℕ) (ask : Ask) (known : Bool) (used : ℕ) (w w' memo : List ℕ) (st : State) (step : Step) (shown : Bool)
-    → AskDue ws l us ask known w used memo → WalkStart ask.ceiling ask.budget used st → SearchDone (problem_of ws) w w' st step shown
-    → (some_startless (problem_of ws) ≡ true → step ≡ dead_at st 0) → AskSearched ws l us ask w used w' step shown
+pub ask_searched : (file : File) (us : List ℕ) (ask : Ask) (known : Bool) (used : ℕ) (w w' memo : List ℕ) (st : State) (step : Step) (shown : Bool)
+    → AskDue file us ask known w used memo → WalkStart ask.ceiling ask.budget used st → SearchDone (problem file) w w' st step shown
+    → (some_startless (problem file) ≡ true → step ≡ dead_at st 0) → AskSearched file us ask w used w' step shown
 unfolding AskSearched
-ask_searched ws l us ask known used w w' memo st step shown d b h idle = record { memo = memo; known = known; due = d; st = st; start = b; done = h; idle = idle }
+ask_searched file us ask known used w w' memo st step shown d b h idle = record { memo = memo; known = known; due = d; st = st; start = b; done = h; idle = idle }
 
-module _ (ws : List ℕ) (l : Layout) (us : List ℕ) (ask : Ask) (used : ℕ) (w w' : List ℕ) (step : Step) (shown : Bool)
-    (h : AskSearched ws l us ask w used w' step shown) where
+module _ (file : File) (us : List ℕ) (ask : Ask) (used : ℕ) (w w' : List ℕ) (step : Step) (shown : Bool)
+    (h : AskSearched file us ask w used w' step shown) where
   -- what the reply asks
-  pub ask_replies : ReplyOfDue ws l step w'
+  pub ask_replies : ReplyOfDue file step w'
   unfolding AskSearched
   ask_replies =
       let d = h.due in
       let e = h.done.finished in
       record {
-        filed = d.walking.filed;
-        permits = best_permits (problem_of ws) ask.ceiling ask.budget used w w' h.st step h.start e;
-        room = end_fits (problem_of ws) ask.ceiling ask.budget used w w' h.st step h.start e d.room d.held;
-        small = end_small (problem_of ws) ask.ceiling ask.budget used w w' h.st step h.start e d.ceiled;
+        permits = best_permits (problem file) ask.ceiling ask.budget used w w' h.st step h.start e;
+        room = end_fits (problem file) ask.ceiling ask.budget used w w' h.st step h.start e d.room d.held;
+        small = end_small (problem file) ask.ceiling ask.budget used w w' h.st step h.start e d.ceiled;
       }
 
   -- the ask is answered
-  pub ask_answered : (w'' : List ℕ) (r : Reply) → ReplyOf (problem_of ws) step w' w'' r → Asked (problem_of ws) ask.ceiling ask.budget w used w'' r
+  pub ask_answered : (w'' : List ℕ) (r : Reply) → ReplyOf (problem file) step w' w'' r → Asked (problem file) ask.ceiling ask.budget w used w'' r
   unfolding AskSearched
   ask_answered w'' r m =
       let d = h.due in
-      subst (λ (k : Walked). Asked (problem_of ws) ask.ceiling ask.budget w used w'' (record { state = r.state; walked = k; runs = r.runs }))
+      subst (λ (k : Walked). Asked (problem file) ask.ceiling ask.budget w used w'' (record { state = r.state; walked = k; runs = r.runs }))
       (sym m.walked_is)
-      (asked (problem_of ws) ask.ceiling ask.budget used w w' h.st step h.start h.done.finished (fair ws d.walking.filed.passed) d.ceiled
+      (asked (problem file) ask.ceiling ask.budget used w w' h.st step h.start h.done.finished (fair file.words.now file.filed.passed) d.ceiled
       d.room d.held r.runs m.runs_are h.idle w'' r.state m.concluded)
 
   -- and what is known of the free plant is true
-  pub ask_shown : ShowsNone (problem_of ws) shown
+  pub ask_shown : ShowsNone (problem file) shown
   unfolding AskSearched
   ask_shown = h.done.none
 

@@ -5,9 +5,9 @@ use mathlib.Core.Path.{◌≡◌, refl, sym, ap, subst}
 use mathlib.Core.Bool.{Bool}
 use mathlib.Core.List.{List}
 use native.Mathlib.Omega.{arith}
-use Rattle.model.specs.declared.Layout.{Layout}
 use Rattle.model.specs.Nogood.{MOST_LIMIT}
-use Rattle.model.specs.Words.{problem_of}
+use Rattle.instance.specs.declared.file.File.{File}
+use Rattle.instance.specs.File.{problem}
 use Rattle.instance.specs.declared.Euro.{Euro}
 use Rattle.tables.specs.Tables.{price_in}
 use Rattle.relaxation.specs.Relaxed.{MemoTrue}
@@ -28,8 +28,8 @@ use Rattle.search.specs.Walks.{SearchDue, OutcomeOf, Going, FirstTurn, probe_of,
 -- ---- probes at gaps
 
 -- none yet
-module _ (ws : List ℕ) (l : Layout) (us w memo : List ℕ) (st : State) (at : GapTurn) (first : FirstTurn st at) where
-  pub turn_first : (shown : Bool) → SearchDue ws l us st shown w memo → GapAt ws l us st at shown w memo
+module _ (file : File) (us w memo : List ℕ) (st : State) (at : GapTurn) (first : FirstTurn st at) where
+  pub turn_first : (shown : Bool) → SearchDue file us st shown w memo → GapAt file us st at shown w memo
   unfolding GapAt
   turn_first shown d = record {
     going = record {
@@ -43,21 +43,21 @@ module _ (ws : List ℕ) (l : Layout) (us w memo : List ℕ) (st : State) (at : 
     none = d.none;
   }
 
-  pub carried_first : Carried (problem_of ws) w st.used w at.state.used
-  carried_first = rw first.state_is (carried_same (problem_of ws) w st.used)
+  pub carried_first : Carried (problem file) w st.used w at.state.used
+  carried_first = rw first.state_is (carried_same (problem file) w st.used)
 
-module _ (ws : List ℕ) (l : Layout) (us : List ℕ) (st : State) (at : GapTurn) (shown : Bool) (w memo : List ℕ)
-    (h : GapAt ws l us st at shown w memo) (more : at.gap.0 < at.room.0) where
+module _ (file : File) (us : List ℕ) (st : State) (at : GapTurn) (shown : Bool) (w memo : List ℕ)
+    (h : GapAt file us st at shown w memo) (more : at.gap.0 < at.room.0) where
   -- numbers in their ranges
   pub turn_fits : at.root.0 + at.gap.0 < MOST_LIMIT
   unfolding GapAt
   turn_fits = omega (arith, h.fits, h.going.small)
 
   -- what the turn after one in vain asks
-  pub vain_asks : AfterVain ws l us at shown
+  pub vain_asks : AfterVain file us at shown
   unfolding GapAt
   vain_asks = record {
-    file = record { filed = h.going.walking.filed; priced = h.going.walking.dual.priced };
+    priced = record { priced = h.going.walking.dual.priced };
     none = h.none;
     some = h.some;
     more = more;
@@ -73,7 +73,7 @@ module _ (ws : List ℕ) (l : Layout) (us : List ℕ) (st : State) (at : GapTurn
     used_is = ap (λ (x : State). x.used) is
 
     -- it may begin
-    pub gap_due : ProbeDue ws l us probe w memo
+    pub gap_due : ProbeDue file us probe w memo
     unfolding GapAt
     gap_due = record {
       walking = h.going.walking;
@@ -82,21 +82,21 @@ module _ (ws : List ℕ) (l : Layout) (us : List ℕ) (st : State) (at : GapTurn
     }
 
     -- it has ended
-    module _ (w' memo' : List ℕ) (step : Step) (done : RootDone (problem_of ws) w w' probe step) (recalls : MemoTrue (problem_of ws) (price_in us) memo') where
-      carries : Carried (problem_of ws) w at.state.used w' step.state.used
-      carries = subst (λ (n : ℕ). Carried (problem_of ws) w n w' step.state.used) used_is done.goes.carried
+    module _ (w' memo' : List ℕ) (step : Step) (done : RootDone (problem file) w w' probe step) (recalls : MemoTrue (problem file) (price_in us) memo') where
+      carries : Carried (problem file) w at.state.used w' step.state.used
+      carries = subst (λ (n : ℕ). Carried (problem file) w n w' step.state.used) used_is done.goes.carried
 
-      goes : Going ws l us st step.state w' memo'
+      goes : Going file us st step.state w' memo'
       unfolding GapAt
       goes = record {
-        walking = record { filed = h.going.walking.filed; dual = h.going.walking.dual; recalls = recalls };
+        walking = record { dual = h.going.walking.dual; recalls = recalls };
         nothing = h.going.nothing;
         small = h.going.small;
-        held = held_carried (problem_of ws) w w' at.state.used step.state.used h.going.held carries;
+        held = held_carried (problem file) w w' at.state.used step.state.used h.going.held carries;
       }
 
       -- with a plan
-      pub gap_found : (o : Outcome) → OutcomeOf step probe.limit.0 o → o ≡ Plan → GapNext ws l us st w at w' memo' shown (Found step.state)
+      pub gap_found : (o : Outcome) → OutcomeOf step probe.limit.0 o → o ≡ Plan → GapNext file us st w at w' memo' shown (Found step.state)
       unfolding GapAt
       gap_found o t e =
           let s : OutcomeOf step probe.limit.0 Plan = subst (OutcomeOf step probe.limit.0) e t in
@@ -110,7 +110,7 @@ module _ (ws : List ℕ) (l : Layout) (us : List ℕ) (st : State) (at : GapTurn
           }
 
       -- in vain
-      pub gap_vain : (shown' : Bool) (r : GapTurn) → VainOn (problem_of ws) at step.state shown' r → GapNext ws l us st w at w' memo' shown' (Vain r)
+      pub gap_vain : (shown' : Bool) (r : GapTurn) → VainOn (problem file) at step.state shown' r → GapNext file us st w at w' memo' shown' (Vain r)
       unfolding GapAt
       gap_vain shown' r v = record {
         next = record {
@@ -125,32 +125,32 @@ module _ (ws : List ℕ) (l : Layout) (us : List ℕ) (st : State) (at : GapTurn
       }
 
 -- one more: a plan
-pub gaps_found : (ws : List ℕ) (l : Layout) (us : List ℕ) (st : State) (w : List ℕ) (at : GapTurn) (w' memo' : List ℕ) (shown' : Bool) (end : GapEnd)
-    (s : State) (w₀ : List ℕ) → GapNext ws l us st w at w' memo' shown' end → end ≡ Found s → Carried (problem_of ws) w₀ st.used w at.state.used
-    → GapsDone ws l us w₀ st w' memo' shown' (AtPlan s)
-gaps_found ws l us st w at w' memo' shown' end s w₀ h e c =
-    let f : PlanFound ws l us st w at.state.used w' memo' shown' s = subst (GapNext ws l us st w at w' memo' shown') e h in
-    record { plan = f.plan; carried = carried_next (problem_of ws) w₀ w w' st.used at.state.used s.used c f.carried; none = f.none }
+pub gaps_found : (file : File) (us : List ℕ) (st : State) (w : List ℕ) (at : GapTurn) (w' memo' : List ℕ) (shown' : Bool) (end : GapEnd)
+    (s : State) (w₀ : List ℕ) → GapNext file us st w at w' memo' shown' end → end ≡ Found s → Carried (problem file) w₀ st.used w at.state.used
+    → GapsDone file us w₀ st w' memo' shown' (AtPlan s)
+gaps_found file us st w at w' memo' shown' end s w₀ h e c =
+    let f : PlanFound file us st w at.state.used w' memo' shown' s = subst (GapNext file us st w at w' memo' shown') e h in
+    record { plan = f.plan; carried = carried_next (problem file) w₀ w w' st.used at.state.used s.used c f.carried; none = f.none }
 
 -- or in vain
-module _ (ws : List ℕ) (l : Layout) (us : List ℕ) (st : State) (w : List ℕ) (at : GapTurn) (w' memo' : List ℕ) (shown' : Bool) (end : GapEnd) (r : GapTurn)
-    (h : GapNext ws l us st w at w' memo' shown' end) (e : end ≡ Vain r) where
-  step_of : GapStep ws l us st w at w' memo' shown' r
-  step_of = subst (GapNext ws l us st w at w' memo' shown') e h
+module _ (file : File) (us : List ℕ) (st : State) (w : List ℕ) (at : GapTurn) (w' memo' : List ℕ) (shown' : Bool) (end : GapEnd) (r : GapTurn)
+    (h : GapNext file us st w at w' memo' shown' end) (e : end ≡ Vain r) where
+  step_of : GapStep file us st w at w' memo' shown' r
+  step_of = subst (GapNext file us st w at w' memo' shown') e h
 
-  pub turn_next : GapAt ws l us st r shown' w' memo'
+  pub turn_next : GapAt file us st r shown' w' memo'
   unfolding GapAt
   turn_next = step_of.next
 
-  pub turn_carried : (w₀ : List ℕ) → Carried (problem_of ws) w₀ st.used w at.state.used → Carried (problem_of ws) w₀ st.used w' r.state.used
-  turn_carried w₀ c = carried_next (problem_of ws) w₀ w w' st.used at.state.used r.state.used c step_of.carried
+  pub turn_carried : (w₀ : List ℕ) → Carried (problem file) w₀ st.used w at.state.used → Carried (problem file) w₀ st.used w' r.state.used
+  turn_carried w₀ c = carried_next (problem file) w₀ w w' st.used at.state.used r.state.used c step_of.carried
 
 -- after the last
-pub gaps_vain : (ws : List ℕ) (l : Layout) (us w₀ : List ℕ) (st : State) (w memo : List ℕ) (at : GapTurn) (shown : Bool) (s : State)
-    → GapAt ws l us st at shown w memo → Carried (problem_of ws) w₀ st.used w at.state.used → s ≡ renewed_at at.state st.limit at.left
-    → GapsDone ws l us w₀ st w memo shown (AtCeiling s)
+pub gaps_vain : (file : File) (us w₀ : List ℕ) (st : State) (w memo : List ℕ) (at : GapTurn) (shown : Bool) (s : State)
+    → GapAt file us st at shown w memo → Carried (problem file) w₀ st.used w at.state.used → s ≡ renewed_at at.state st.limit at.left
+    → GapsDone file us w₀ st w memo shown (AtCeiling s)
 unfolding GapAt
-gaps_vain ws l us w₀ st w memo at shown s h c e = subst (GapsVain ws l us w₀ st w memo shown) (sym e) (record {
+gaps_vain file us w₀ st w memo at shown s h c e = subst (GapsVain file us w₀ st w memo shown) (sym e) (record {
   vain = record {
     ceiling = record {
       going = record { walking = h.going.walking; nothing = h.going.nothing; small = h.going.small; held = h.going.held };

@@ -6,10 +6,10 @@ use mathlib.Core.Bool.{Bool, true}
 use mathlib.Core.List.{List}
 use native.Mathlib.Omega.{arith}
 use Rattle.sums.proofs.LogicLaws.{true_false}
-use Rattle.model.specs.declared.Layout.{Layout}
 use Rattle.model.specs.Problem.{Problem}
-use Rattle.model.specs.Words.{problem_of}
 use Rattle.model.proofs.FileLaws.{fair}
+use Rattle.instance.specs.declared.file.File.{File}
+use Rattle.instance.specs.File.{problem}
 use Rattle.tables.specs.Tables.{price_in}
 use Rattle.relaxation.specs.Relaxed.{MemoTrue}
 use Rattle.state.specs.declared.State.{State}
@@ -31,62 +31,62 @@ use Rattle.search.specs.declared.gaps.Probes.TheVariants.{AtPlan, AtCeiling}
 use Rattle.search.specs.Walks.{OutcomeOf, Going, GoingDue, PlanDue, CeilingDue, Settles, VainDue, PlanFound, GapsVain, GapsDone}
 
 -- where the probes at gaps have come
-module _ (ws : List ℕ) (l : Layout) (us w₀ : List ℕ) (st : State) (w memo : List ℕ) (shown : Bool) (r : Probes)
-    (h : GapsDone ws l us w₀ st w memo shown r) (s : State) where
+module _ (file : File) (us w₀ : List ℕ) (st : State) (w memo : List ℕ) (shown : Bool) (r : Probes)
+    (h : GapsDone file us w₀ st w memo shown r) (s : State) where
   -- to a plan
   module _ (e : r ≡ AtPlan s) where
-    found : PlanFound ws l us st w₀ st.used w memo shown s
-    found = subst (GapsDone ws l us w₀ st w memo shown) e h
+    found : PlanFound file us st w₀ st.used w memo shown s
+    found = subst (GapsDone file us w₀ st w memo shown) e h
 
-    pub plan_due : PlanDue ws l us st s w memo
+    pub plan_due : PlanDue file us st s w memo
     unfolding PlanDue
     plan_due = found.plan
 
   -- to the ask's own ceiling
   module _ (e : r ≡ AtCeiling s) where
-    vain : GapsVain ws l us w₀ st w memo shown s
-    vain = subst (GapsDone ws l us w₀ st w memo shown) e h
+    vain : GapsVain file us w₀ st w memo shown s
+    vain = subst (GapsDone file us w₀ st w memo shown) e h
 
-    pub vain_due : VainDue ws l us st s shown w memo
+    pub vain_due : VainDue file us st s shown w memo
     unfolding VainDue
     vain_due = vain.vain
 
 -- there
-module _ (ws : List ℕ) (l : Layout) (us : List ℕ) (st s : State) (known : Bool) (w memo : List ℕ) (h : VainDue ws l us st s known w memo) where
+module _ (file : File) (us : List ℕ) (st s : State) (known : Bool) (w memo : List ℕ) (h : VainDue file us st s known w memo) where
   -- the free plant is asked
-  pub vain_priced : PricedFile ws l us
+  pub vain_priced : PricedFile file us
   unfolding VainDue
-  vain_priced = record { filed = h.ceiling.going.walking.filed; priced = h.ceiling.going.walking.dual.priced }
+  vain_priced = record { priced = h.ceiling.going.walking.dual.priced }
 
-  pub vain_known : ShowsNone (problem_of ws) known
+  pub vain_known : ShowsNone (problem file) known
   unfolding VainDue
   vain_known = h.none
 
-  pub vain_recalls : MemoTrue (problem_of ws) (price_in us) memo
+  pub vain_recalls : MemoTrue (problem file) (price_in us) memo
   unfolding VainDue
   vain_recalls = h.ceiling.going.walking.recalls
 
   -- it does not show that there is none: the probe at the ceiling
-  pub vain_ceiling : CeilingDue ws l us st s w memo
+  pub vain_ceiling : CeilingDue file us st s w memo
   unfolding VainDue CeilingDue
   vain_ceiling = h.ceiling
 
 -- ---- the last walk
 
-module _ (ws : List ℕ) (l : Layout) (us : List ℕ) (st s : State) (w memo : List ℕ) (h : GoingDue ws l us st s w memo) (last : State)
+module _ (file : File) (us : List ℕ) (st s : State) (w memo : List ℕ) (h : GoingDue file us st s w memo) (last : State)
     (is : last ≡ renewed_at s st.limit st.budget) where
-  pub last_due : WalkDue ws l us last w memo
+  pub last_due : WalkDue file us last w memo
   unfolding GoingDue
-  last_due = subst (λ (x : State). WalkDue ws l us x w memo) (sym is) (record {
+  last_due = subst (λ (x : State). WalkDue file us x w memo) (sym is) (record {
     walking = h.walking;
     fresh = record { nothing = refl; tries = refl; small = h.small; held = h.held };
   })
 
   -- it ends the ask
-  pub last_ends : (w' : List ℕ) (step : Step) → Finished (problem_of ws) w w' last step → Settles (problem_of ws) w w' st s step
+  pub last_ends : (w' : List ℕ) (step : Step) → Finished (problem file) w w' last step → Settles (problem file) w w' st s step
   unfolding GoingDue
   last_ends w' step finished =
-      let g : Finished (problem_of ws) w w' (renewed_at s st.limit st.budget) step = subst (λ (x : State). Finished (problem_of ws) w w' x step) is finished in
+      let g : Finished (problem file) w w' (renewed_at s st.limit st.budget) step = subst (λ (x : State). Finished (problem file) w w' x step) is finished in
       record {
         each = λ w₀ c. record {
           later = record {
@@ -96,7 +96,7 @@ module _ (ws : List ℕ) (l : Layout) (us : List ℕ) (st s : State) (w memo : L
               none = λ _. i.none h.nothing;
               plan = λ z. true_false (sym z);
             });
-            carried = carried_next (problem_of ws) w₀ w w' st.used s.used step.state.used c g.later.carried;
+            carried = carried_next (problem file) w₀ w w' st.used s.used step.state.used c g.later.carried;
           };
           closes = g.closes;
         };
@@ -109,8 +109,8 @@ settles_later p w w₁ w₂ st s q step c h = record { each = λ w₀ d. h.each 
 
 -- ---- the descent
 
-module _ (ws : List ℕ) (l : Layout) (us : List ℕ) (st s : State) (w memo : List ℕ) (h : PlanDue ws l us st s w memo) where
-  pub plan_descends : DescentDue ws l us s w memo
+module _ (file : File) (us : List ℕ) (st s : State) (w memo : List ℕ) (h : PlanDue file us st s w memo) where
+  pub plan_descends : DescentDue file us s w memo
   unfolding PlanDue
   plan_descends = record {
     walking = h.going.walking;
@@ -120,69 +120,69 @@ module _ (ws : List ℕ) (l : Layout) (us : List ℕ) (st s : State) (w memo : L
     plan = h.planned.plan;
   }
 
-  module _ (w₁ : List ℕ) (r : Descent) (d : Descended (problem_of ws) w w₁ s r) where
+  module _ (w₁ : List ℕ) (r : Descent) (d : Descended (problem file) w w₁ s r) where
     -- the earliest plan
     pub plan_told : (step : Step) → r.ending ≡ Earliest → step ≡ dead_at (improved_by r.state r.state.best s.limit) 0
-        → Settles (problem_of ws) w w₁ st s step
+        → Settles (problem file) w w₁ st s step
     unfolding PlanDue
-    plan_told step so is = subst (Settles (problem_of ws) w w₁ st s) (sym is) (record {
+    plan_told step so is = subst (Settles (problem file) w w₁ st s) (sym is) (record {
       each = λ w₀ c. record {
         later = record {
           falls = omega (arith, h.planned.below);
           kept = λ ceiling i. record {
             under = omega (arith, i.under, h.planned.below);
             none = λ z. true_false z;
-            plan = λ _. descended_best (problem_of ws) r.state.best s.limit.0 (fair ws h.going.walking.filed.passed) (d.earliest so) ceiling
+            plan = λ _. descended_best (problem file) r.state.best s.limit.0 (fair file.words.now file.filed.passed) (d.earliest so) ceiling
                 (omega (arith, i.under, h.planned.below));
           };
-          carried = carried_next (problem_of ws) w₀ w w₁ st.used s.used r.state.used c d.carried;
+          carried = carried_next (problem file) w₀ w w₁ st.used s.used r.state.used c d.carried;
         };
         closes = h.planned.least;
       };
     })
 
     -- the tries are spent: the last walk
-    pub plan_walks : (memo₁ : List ℕ) → MemoTrue (problem_of ws) (price_in us) memo₁ → GoingDue ws l us st r.state w₁ memo₁
+    pub plan_walks : (memo₁ : List ℕ) → MemoTrue (problem file) (price_in us) memo₁ → GoingDue file us st r.state w₁ memo₁
     unfolding PlanDue GoingDue
     plan_walks memo₁ recalls = record {
-      walking = record { filed = h.going.walking.filed; dual = h.going.walking.dual; recalls = recalls };
+      walking = record { dual = h.going.walking.dual; recalls = recalls };
       nothing = h.going.nothing;
       small = h.going.small;
-      held = held_carried (problem_of ws) w w₁ s.used r.state.used h.going.held d.carried;
+      held = held_carried (problem file) w w₁ s.used r.state.used h.going.held d.carried;
     }
 
-    pub plan_walked : (w₂ : List ℕ) (step : Step) → Settles (problem_of ws) w₁ w₂ st r.state step → Settles (problem_of ws) w w₂ st s step
-    plan_walked w₂ step done = settles_later (problem_of ws) w w₁ w₂ st s r.state step d.carried done
+    pub plan_walked : (w₂ : List ℕ) (step : Step) → Settles (problem file) w₁ w₂ st r.state step → Settles (problem file) w w₂ st s step
+    plan_walked w₂ step done = settles_later (problem file) w w₁ w₂ st s r.state step d.carried done
 
 -- ---- the ask's own ceiling
 
-module _ (ws : List ℕ) (l : Layout) (us : List ℕ) (st s : State) (w memo : List ℕ) (h : CeilingDue ws l us st s w memo) where
-  pub ceiling_probes : ProbeDue ws l us s w memo
+module _ (file : File) (us : List ℕ) (st s : State) (w memo : List ℕ) (h : CeilingDue file us st s w memo) where
+  pub ceiling_probes : ProbeDue file us s w memo
   unfolding CeilingDue
   ceiling_probes = record { walking = h.going.walking; small = omega (arith, h.own, h.going.small); held = h.going.held }
 
-  module _ (w₁ : List ℕ) (step : Step) (done : RootDone (problem_of ws) w w₁ s step) where
-    later : (memo₁ : List ℕ) → MemoTrue (problem_of ws) (price_in us) memo₁ → Going ws l us st step.state w₁ memo₁
+  module _ (w₁ : List ℕ) (step : Step) (done : RootDone (problem file) w w₁ s step) where
+    later : (memo₁ : List ℕ) → MemoTrue (problem file) (price_in us) memo₁ → Going file us st step.state w₁ memo₁
     unfolding CeilingDue
     later memo₁ recalls = record {
-      walking = record { filed = h.going.walking.filed; dual = h.going.walking.dual; recalls = recalls };
+      walking = record { dual = h.going.walking.dual; recalls = recalls };
       nothing = h.going.nothing;
       small = h.going.small;
-      held = held_carried (problem_of ws) w w₁ s.used step.state.used h.going.held done.goes.carried;
+      held = held_carried (problem file) w w₁ s.used step.state.used h.going.held done.goes.carried;
     }
 
     -- the tries are spent
-    pub ceiling_walks : (memo₁ : List ℕ) → MemoTrue (problem_of ws) (price_in us) memo₁ → GoingDue ws l us st step.state w₁ memo₁
+    pub ceiling_walks : (memo₁ : List ℕ) → MemoTrue (problem file) (price_in us) memo₁ → GoingDue file us st step.state w₁ memo₁
     unfolding GoingDue
     ceiling_walks = later
 
     -- what follows ends the ask
-    pub ceiling_ends : (w₂ : List ℕ) (r : Step) → Settles (problem_of ws) w₁ w₂ st step.state r → Settles (problem_of ws) w w₂ st s r
-    ceiling_ends w₂ r x = settles_later (problem_of ws) w w₁ w₂ st s step.state r done.goes.carried x
+    pub ceiling_ends : (w₂ : List ℕ) (r : Step) → Settles (problem file) w₁ w₂ st step.state r → Settles (problem file) w w₂ st s r
+    ceiling_ends w₂ r x = settles_later (problem file) w w₁ w₂ st s step.state r done.goes.carried x
 
     module _ (o : Outcome) (t : OutcomeOf step st.limit.0 o) where
       -- a plan
-      pub ceiling_plan : (memo₁ : List ℕ) → MemoTrue (problem_of ws) (price_in us) memo₁ → o ≡ Plan → PlanDue ws l us st step.state w₁ memo₁
+      pub ceiling_plan : (memo₁ : List ℕ) → MemoTrue (problem file) (price_in us) memo₁ → o ≡ Plan → PlanDue file us st step.state w₁ memo₁
       unfolding CeilingDue PlanDue
       ceiling_plan memo₁ recalls e =
           let so : OutcomeOf step st.limit.0 Plan = subst (OutcomeOf step st.limit.0) e t in
@@ -193,14 +193,14 @@ module _ (ws : List ℕ) (l : Layout) (us : List ℕ) (st s : State) (w memo : L
 
       -- none
       pub ceiling_none : (r : Step) → o ≡ NoPlan → r ≡ dead_at (renewed_at step.state st.limit st.budget) 0
-          → Settles (problem_of ws) w w₁ st s r
+          → Settles (problem file) w w₁ st s r
       unfolding CeilingDue
-      ceiling_none r e is = subst (Settles (problem_of ws) w w₁ st s) (sym is) (record {
+      ceiling_none r e is = subst (Settles (problem file) w w₁ st s) (sym is) (record {
         each = λ w₀ c. record {
           later = record {
             falls = omega arith;
             kept = λ ceiling i. record { under = i.under; none = λ _. i.none h.going.nothing; plan = λ z. true_false (sym z) };
-            carried = carried_next (problem_of ws) w₀ w w₁ st.used s.used step.state.used c done.goes.carried;
+            carried = carried_next (problem file) w₀ w w₁ st.used s.used step.state.used c done.goes.carried;
           };
           closes = record {
             costs = λ x sound.

@@ -3,13 +3,12 @@
 use Rattle.std.specs.Prelude.{ℕ, ◌+◌, ◌-◌, ◌≤◌, ◌<◌, ◌≡◌, Bool, true, false, List, length}
 use Rattle.sums.specs.Range.{list_to}
 use Rattle.sums.specs.Table.{entry}
-use Rattle.model.specs.declared.Layout.{Layout}
 use Rattle.model.specs.Problem.{Problem}
-use Rattle.model.specs.Words.{problem_of}
 use Rattle.model.specs.Nogood.{MOST_LIMIT, Nogood}
 use Rattle.model.specs.Answer.{Answer, optimal, infeasible, incumbent, unknown, Correct}
 use Rattle.model.specs.Asks.{concludes}
-use Rattle.instance.specs.Filed.{Filed}
+use Rattle.instance.specs.declared.file.File.{File}
+use Rattle.instance.specs.File.{problem}
 use Rattle.nogood.specs.Noting.{KEPT_FREE}
 use Rattle.nogood.specs.Stock.{Stock, Grown, EndsUnder}
 use Rattle.bound.specs.Tests.{some_startless, Permits, RunsOf}
@@ -41,9 +40,8 @@ abbrev pub answer_of : Problem → Reply → Answer
 answer_of p r = answer_in p r.state r.runs r.walked
 
 -- what a reply asks of how a search ended
-pub record ReplyOfDue (ws : List ℕ) (l : Layout) (step : Step) (w : List ℕ) : Type 0 where
-  pub filed : Filed ws l
-  pub permits : step.state.found ≡ true → Permits (problem_of ws) (entry step.state.best)
+pub record ReplyOfDue (file : File) (step : Step) (w : List ℕ) : Type 0 where
+  pub permits : step.state.found ≡ true → Permits (problem file) (entry step.state.best)
   pub room : step.state.used < length w
   pub small : step.state.limit.0 ≤ MOST_LIMIT
 
@@ -54,26 +52,26 @@ pub record ReplyOf (p : Problem) (step : Step) (w w' : List ℕ) (r : Reply) : T
   pub walked_is : r.walked ≡ step.walked
 
 -- what an ask asks: a ceiling, what is known of the free plant, and a table whose first words hold true nogoods
-pub record AskDue (ws : List ℕ) (l : Layout) (us : List ℕ) (ask : Ask) (shown : Bool) (w : List ℕ) (used : ℕ) (memo : List ℕ) : Type 0 where
-  pub walking : Walking ws l us memo
+pub record AskDue (file : File) (us : List ℕ) (ask : Ask) (shown : Bool) (w : List ℕ) (used : ℕ) (memo : List ℕ) : Type 0 where
+  pub walking : Walking file us memo
   pub ceiled : ask.ceiling < MOST_LIMIT
-  pub none : ShowsNone (problem_of ws) shown
+  pub none : ShowsNone (problem file) shown
   pub room : used < length w
-  pub held : TableTrue (problem_of ws) w used
+  pub held : TableTrue (problem file) w used
 
 -- what an ask's reply is made from: what it asked, the state st in which its walks began, and how they ended
-pub record Searching (ws : List ℕ) (l : Layout) (us : List ℕ) (ask : Ask) (w : List ℕ) (used : ℕ) (w' : List ℕ) (step : Step) (shown : Bool) : Type 0 where
+pub record Searching (file : File) (us : List ℕ) (ask : Ask) (w : List ℕ) (used : ℕ) (w' : List ℕ) (step : Step) (shown : Bool) : Type 0 where
   pub memo : List ℕ
   pub known : Bool
-  pub due : AskDue ws l us ask known w used memo
+  pub due : AskDue file us ask known w used memo
   pub st : State
   pub start : WalkStart ask.ceiling ask.budget used st
-  pub done : SearchDone (problem_of ws) w w' st step shown
-  pub idle : some_startless (problem_of ws) ≡ true → step ≡ dead_at st 0
+  pub done : SearchDone (problem file) w w' st step shown
+  pub idle : some_startless (problem file) ≡ true → step ≡ dead_at st 0
 
 -- as one fact
-unfoldable pub AskSearched : (ws : List ℕ) → Layout → (us : List ℕ) → Ask → (w : List ℕ) → ℕ → (w' : List ℕ) → Step → Bool → Type 0
-AskSearched ws l us ask w used w' step shown = Searching ws l us ask w used w' step shown
+unfoldable pub AskSearched : (file : File) → (us : List ℕ) → Ask → (w : List ℕ) → ℕ → (w' : List ℕ) → Step → Bool → Type 0
+AskSearched file us ask w used w' step shown = Searching file us ask w used w' step shown
 
 -- an ask with this ceiling and budget, on a table w of true nogoods in so many words, has left the table w' and this reply
 pub record Asked (p : Problem) (ceiling budget : ℕ) (w : List ℕ) (used : ℕ) (w' : List ℕ) (r : Reply) : Type 0 where

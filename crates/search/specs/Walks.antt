@@ -3,10 +3,10 @@
 -- Assumes nothing.
 use Rattle.std.specs.Prelude.{ℕ, ◌+◌, ◌≤◌, ◌<◌, ◌≡◌, Bool, false, List}
 use Rattle.sums.specs.Table.{entry}
-use Rattle.model.specs.declared.Layout.{Layout}
 use Rattle.model.specs.Problem.{Problem}
 use Rattle.model.specs.Nogood.{MOST_LIMIT}
-use Rattle.model.specs.Words.{problem_of}
+use Rattle.instance.specs.declared.file.File.{File}
+use Rattle.instance.specs.File.{problem}
 use Rattle.state.specs.declared.State.{State}
 use Rattle.state.specs.declared.Step.{Step}
 use Rattle.prices.specs.Ranges.{PricedFile}
@@ -23,9 +23,9 @@ use Rattle.search.specs.declared.gaps.Probes.{Probes}
 use Rattle.search.specs.declared.gaps.Probes.TheVariants.{AtPlan, AtCeiling}
 
 -- what the walks of an ask ask, and what is known of the free plant
-pub record SearchDue (ws : List ℕ) (l : Layout) (us : List ℕ) (st : State) (shown : Bool) (w memo : List ℕ) : Type 0 where
-  pub walk : WalkDue ws l us st w memo
-  pub none : ShowsNone (problem_of ws) shown
+pub record SearchDue (file : File) (us : List ℕ) (st : State) (shown : Bool) (w memo : List ℕ) : Type 0 where
+  pub walk : WalkDue file us st w memo
+  pub none : ShowsNone (problem file) shown
 
 -- they have ended, and what is known then
 pub record SearchDone (p : Problem) (w w' : List ℕ) (st : State) (step : Step) (shown : Bool) : Type 0 where
@@ -39,14 +39,14 @@ OutcomeOf step limit NoPlan = Unspent step.walked × (limit ≤ step.state.limit
 OutcomeOf step limit Spent = ¬ Unspent step.walked
 
 -- what a further walk asks
-pub record Going (ws : List ℕ) (l : Layout) (us : List ℕ) (st s : State) (w memo : List ℕ) : Type 0 where
-  pub walking : Walking ws l us memo
+pub record Going (file : File) (us : List ℕ) (st s : State) (w memo : List ℕ) : Type 0 where
+  pub walking : Walking file us memo
   pub nothing : st.found ≡ false
   pub small : st.limit.0 ≤ MOST_LIMIT
-  pub held : TableTrue (problem_of ws) w s.used
+  pub held : TableTrue (problem file) w s.used
 
-unfoldable pub GoingDue : (ws : List ℕ) → Layout → (us : List ℕ) → (st s : State) → (w memo : List ℕ) → Type 0
-GoingDue ws l us st s w memo = Going ws l us st s w memo
+unfoldable pub GoingDue : (file : File) → (us : List ℕ) → (st s : State) → (w memo : List ℕ) → Type 0
+GoingDue file us st s w memo = Going file us st s w memo
 
 -- the state's plan is of the least cost, below the ask's limit
 pub record Planned (p : Problem) (st s : State) : Type 0 where
@@ -55,20 +55,20 @@ pub record Planned (p : Problem) (st s : State) : Type 0 where
   pub plan : PlanAt p (entry s.best) s.limit.0
 
 -- what the descent asks
-pub record PlanGoing (ws : List ℕ) (l : Layout) (us : List ℕ) (st s : State) (w memo : List ℕ) : Type 0 where
-  pub going : Going ws l us st s w memo
-  pub planned : Planned (problem_of ws) st s
+pub record PlanGoing (file : File) (us : List ℕ) (st s : State) (w memo : List ℕ) : Type 0 where
+  pub going : Going file us st s w memo
+  pub planned : Planned (problem file) st s
 
-unfoldable pub PlanDue : (ws : List ℕ) → Layout → (us : List ℕ) → (st s : State) → (w memo : List ℕ) → Type 0
-PlanDue ws l us st s w memo = PlanGoing ws l us st s w memo
+unfoldable pub PlanDue : (file : File) → (us : List ℕ) → (st s : State) → (w memo : List ℕ) → Type 0
+PlanDue file us st s w memo = PlanGoing file us st s w memo
 
 -- what the probe at the ask's own ceiling asks
-pub record CeilingGoing (ws : List ℕ) (l : Layout) (us : List ℕ) (st s : State) (w memo : List ℕ) : Type 0 where
-  pub going : Going ws l us st s w memo
+pub record CeilingGoing (file : File) (us : List ℕ) (st s : State) (w memo : List ℕ) : Type 0 where
+  pub going : Going file us st s w memo
   pub own : s.limit.0 ≡ st.limit.0
 
-unfoldable pub CeilingDue : (ws : List ℕ) → Layout → (us : List ℕ) → (st s : State) → (w memo : List ℕ) → Type 0
-CeilingDue ws l us st s w memo = CeilingGoing ws l us st s w memo
+unfoldable pub CeilingDue : (file : File) → (us : List ℕ) → (st s : State) → (w memo : List ℕ) → Type 0
+CeilingDue file us st s w memo = CeilingGoing file us st s w memo
 
 -- from there the ask is finished, whatever its first table was
 pub record Settles (p : Problem) (w w' : List ℕ) (st s : State) (step : Step) : Type 0 where
@@ -80,12 +80,12 @@ pub record Concludes (p : Problem) (w w' : List ℕ) (st s : State) (step : Step
   pub none : ShowsNone p shown
 
 -- where the probes at gaps were all in vain: what the probe at the ceiling asks, and what is known of the free plant is true
-pub record InVain (ws : List ℕ) (l : Layout) (us : List ℕ) (st s : State) (shown : Bool) (w memo : List ℕ) : Type 0 where
-  pub ceiling : CeilingGoing ws l us st s w memo
-  pub none : ShowsNone (problem_of ws) shown
+pub record InVain (file : File) (us : List ℕ) (st s : State) (shown : Bool) (w memo : List ℕ) : Type 0 where
+  pub ceiling : CeilingGoing file us st s w memo
+  pub none : ShowsNone (problem file) shown
 
-unfoldable pub VainDue : (ws : List ℕ) → Layout → (us : List ℕ) → (st s : State) → Bool → (w memo : List ℕ) → Type 0
-VainDue ws l us st s shown w memo = InVain ws l us st s shown w memo
+unfoldable pub VainDue : (file : File) → (us : List ℕ) → (st s : State) → Bool → (w memo : List ℕ) → Type 0
+VainDue file us st s shown w memo = InVain file us st s shown w memo
 
 -- ---- probes at gaps
 
@@ -100,9 +100,9 @@ abbrev pub probe_of : GapTurn → State
 probe_of at = renewed_at at.state (record { 0 = at.root.0 + at.gap.0 + 1 }) at.left
 
 -- what the turn after a probe in vain asks
-pub record AfterVain (ws : List ℕ) (l : Layout) (us : List ℕ) (at : GapTurn) (shown : Bool) : Type 0 where
-  pub file : PricedFile ws l us
-  pub none : ShowsNone (problem_of ws) shown
+pub record AfterVain (file : File) (us : List ℕ) (at : GapTurn) (shown : Bool) : Type 0 where
+  pub priced : PricedFile file us
+  pub none : ShowsNone (problem file) shown
   pub some : 1 ≤ at.gap.0
   pub more : at.gap.0 < at.room.0
   pub few : at.room.0 ≤ MOST_LIMIT
@@ -116,39 +116,39 @@ pub record VainOn (p : Problem) (at : GapTurn) (s : State) (shown : Bool) (r : G
   pub none : ShowsNone p shown
 
 -- where the probes at gaps stand, in an ask that began in a state st
-pub record GapGoing (ws : List ℕ) (l : Layout) (us : List ℕ) (st : State) (at : GapTurn) (shown : Bool) (w memo : List ℕ) : Type 0 where
-  pub going : Going ws l us st at.state w memo
+pub record GapGoing (file : File) (us : List ℕ) (st : State) (at : GapTurn) (shown : Bool) (w memo : List ℕ) : Type 0 where
+  pub going : Going file us st at.state w memo
   pub some : 1 ≤ at.gap.0
   pub fits : at.root.0 + at.room.0 ≤ st.limit.0
-  pub none : ShowsNone (problem_of ws) shown
+  pub none : ShowsNone (problem file) shown
 
-unfoldable pub GapAt : (ws : List ℕ) → Layout → (us : List ℕ) → State → GapTurn → Bool → (w memo : List ℕ) → Type 0
-GapAt ws l us st at shown w memo = GapGoing ws l us st at shown w memo
+unfoldable pub GapAt : (file : File) → (us : List ℕ) → State → GapTurn → Bool → (w memo : List ℕ) → Type 0
+GapAt file us st at shown w memo = GapGoing file us st at shown w memo
 
 -- a plan was found, in a state s; what the table w held in so many words stands there
-pub record PlanFound (ws : List ℕ) (l : Layout) (us : List ℕ) (st : State) (w : List ℕ) (used : ℕ) (w' memo' : List ℕ) (shown' : Bool) (s : State) : Type 0 where
-  pub plan : PlanGoing ws l us st s w' memo'
-  pub carried : Carried (problem_of ws) w used w' s.used
-  pub none : ShowsNone (problem_of ws) shown'
+pub record PlanFound (file : File) (us : List ℕ) (st : State) (w : List ℕ) (used : ℕ) (w' memo' : List ℕ) (shown' : Bool) (s : State) : Type 0 where
+  pub plan : PlanGoing file us st s w' memo'
+  pub carried : Carried (problem file) w used w' s.used
+  pub none : ShowsNone (problem file) shown'
 
 -- one probe more was in vain
-pub record GapStep (ws : List ℕ) (l : Layout) (us : List ℕ) (st : State) (w : List ℕ) (at : GapTurn) (w' memo' : List ℕ) (shown' : Bool) (r : GapTurn) : Type 0 where
-  pub next : GapGoing ws l us st r shown' w' memo'
-  pub carried : Carried (problem_of ws) w at.state.used w' r.state.used
+pub record GapStep (file : File) (us : List ℕ) (st : State) (w : List ℕ) (at : GapTurn) (w' memo' : List ℕ) (shown' : Bool) (r : GapTurn) : Type 0 where
+  pub next : GapGoing file us st r shown' w' memo'
+  pub carried : Carried (problem file) w at.state.used w' r.state.used
   pub room_is : r.room.0 ≡ at.room.0
   pub rises : at.gap.0 < r.gap.0
 
 -- one probe more
-abbrev pub GapNext : (ws : List ℕ) → Layout → (us : List ℕ) → State → (w : List ℕ) → GapTurn → (w' memo' : List ℕ) → Bool → GapEnd → Type 0
-GapNext ws l us st w at w' memo' shown' (Found s) = PlanFound ws l us st w at.state.used w' memo' shown' s
-GapNext ws l us st w at w' memo' shown' (Vain r) = GapStep ws l us st w at w' memo' shown' r
+abbrev pub GapNext : (file : File) → (us : List ℕ) → State → (w : List ℕ) → GapTurn → (w' memo' : List ℕ) → Bool → GapEnd → Type 0
+GapNext file us st w at w' memo' shown' (Found s) = PlanFound file us st w at.state.used w' memo' shown' s
+GapNext file us st w at w' memo' shown' (Vain r) = GapStep file us st w at w' memo' shown' r
 
 -- all were in vain: they have come to the ask's own limit, in a state s
-pub record GapsVain (ws : List ℕ) (l : Layout) (us w₀ : List ℕ) (st : State) (w memo : List ℕ) (shown : Bool) (s : State) : Type 0 where
-  pub vain : InVain ws l us st s shown w memo
-  pub carried : Carried (problem_of ws) w₀ st.used w s.used
+pub record GapsVain (file : File) (us w₀ : List ℕ) (st : State) (w memo : List ℕ) (shown : Bool) (s : State) : Type 0 where
+  pub vain : InVain file us st s shown w memo
+  pub carried : Carried (problem file) w₀ st.used w s.used
 
 -- where the probes at gaps have come, from the table w₀
-abbrev pub GapsDone : (ws : List ℕ) → Layout → (us w₀ : List ℕ) → State → (w memo : List ℕ) → Bool → Probes → Type 0
-GapsDone ws l us w₀ st w memo shown (AtPlan s) = PlanFound ws l us st w₀ st.used w memo shown s
-GapsDone ws l us w₀ st w memo shown (AtCeiling s) = GapsVain ws l us w₀ st w memo shown s
+abbrev pub GapsDone : (file : File) → (us w₀ : List ℕ) → State → (w memo : List ℕ) → Bool → Probes → Type 0
+GapsDone file us w₀ st w memo shown (AtPlan s) = PlanFound file us st w₀ st.used w memo shown s
+GapsDone file us w₀ st w memo shown (AtCeiling s) = GapsVain file us w₀ st w memo shown s

@@ -1,15 +1,14 @@
 // Probes at gaps: at ceilings that rise from the root's bound; and between them, where they are in vain, what the free plant shows.
 ghost use Rattle.std.specs.Prelude.{◌+◌, ◌<◌, ◌≤◌, ◌≡◌};
 ghost use Rattle.model.specs.Nogood.{MOST_LIMIT};
-ghost use Rattle.model.specs.Words.{problem_of};
 ghost use Rattle.bound.specs.Tests.{RootDue};
 ghost use Rattle.prices.specs.Ranges.{PricedFile};
 ghost use Rattle.farkas.specs.Sums.{ShowsNone};
 ghost use Rattle.search.specs.Walks.{SearchDue, OutcomeOf, FirstTurn, probe_of, AfterVain, VainOn, GapAt, GapNext, GapsDone};
+ghost use Rattle.instance.specs.File.{problem};
 
 use farkas::Findings;
-use instance::Euro;
-use model::Layout;
+use instance::{Euro, File};
 use state::{State, Step, Walked};
 use tables::TABLES;
 
@@ -82,15 +81,15 @@ fn next_gap(gap: Euro, room: Euro, left: u32) -> Euro
     requires { (1 ≤ gap.0) × (gap.0 < room.0) × (room.0 ≤ MOST_LIMIT) }
     ensures { gap.0 < result.0 }
 {
-    if left == 0 { room } else { gap.plus(gap) }
+    if left == 0 { room } else { gap + gap }
 }
 
 // What every schedule costs at least, by the bound with nobody out; the ask's limit where nothing is below it.
-fn least_cost(words: &[u32], l: Layout, tables: &[u32; TABLES], limit: Euro) -> Euro
-    requires { RootDue words.now l tables.now limit.0 }
+fn least_cost(file: &File, tables: &[u32; TABLES], limit: Euro) -> Euro
+    requires { RootDue file.now tables.now limit.0 }
     ensures { result.0 ≤ limit.0 }
 {
-    root_cost(bound::root(words, l, tables, limit), tables, limit)
+    root_cost(bound::root(file, tables, limit), tables, limit)
 }
 
 // ---- the free plant
@@ -99,19 +98,12 @@ fn least_cost(words: &[u32], l: Layout, tables: &[u32; TABLES], limit: Euro) -> 
 const VAIN_TRIES: u32 = 100000;
 
 // What is known of the free plant: where there are at least so many tries, the rounds are made, once a run.
-pub fn learn(
-    words: &[u32],
-    l: Layout,
-    tables: &[u32; TABLES],
-    free: &mut Findings,
-    tries: u32,
-    least: u32,
-)
-    requires { PricedFile words.now l tables.now × ShowsNone (problem_of words.now) free.old.shown }
-    ensures { ShowsNone (problem_of words.now) free.new.shown }
+pub fn learn(file: &File, tables: &[u32; TABLES], free: &mut Findings, tries: u32, least: u32)
+    requires { PricedFile file.now tables.now × ShowsNone (problem file.now) free.old.shown }
+    ensures { ShowsNone (problem file.now) free.new.shown }
 {
     if least <= tries {
-        *free = farkas::try_rounds(words, l, tables, *free);
+        *free = farkas::try_rounds(file, tables, *free);
     }
 }
 
@@ -136,11 +128,11 @@ enum GapEnd {
 }
 
 // Before the first probe.
-fn first_turn(words: &[u32], l: Layout, tables: &[u32; TABLES], st: State) -> GapTurn
-    requires { RootDue words.now l tables.now st.limit.0 }
+fn first_turn(file: &File, tables: &[u32; TABLES], st: State) -> GapTurn
+    requires { RootDue file.now tables.now st.limit.0 }
     ensures { FirstTurn st result }
 {
-    let root = least_cost(words, l, tables, st.limit);
+    let root = least_cost(file, tables, st.limit);
     GapTurn {
         state: st,
         root,
@@ -155,32 +147,17 @@ fn probe_at(at: GapTurn) -> State
     requires { at.root.0 + at.gap.0 < MOST_LIMIT }
     ensures { result ≡ probe_of at }
 {
-    let limit = at.root.plus(at.gap).plus(Euro(1));
+    let limit = at.root + at.gap + Euro(1);
     state::renewed(at.state, limit, at.left)
 }
 
 // The turn after a probe in vain: what the free plant shows then decides whether tries are left.
-fn vain_turn(
-    words: &[u32],
-    l: Layout,
-    tables: &[u32; TABLES],
-    budget: u32,
-    at: GapTurn,
-    step: Step,
-    free: &mut Findings,
-) -> GapTurn
-    requires { AfterVain words.now l tables.now at free.old.shown }
-    ensures { VainOn (problem_of words.now) at step.state free.new.shown result }
+fn vain_turn(file: &File, tables: &[u32; TABLES], budget: u32, at: GapTurn, step: Step, free: &mut Findings) -> GapTurn
+    requires { AfterVain file.now tables.now at free.old.shown }
+    ensures { VainOn (problem file.now) at step.state free.new.shown result }
 {
     let left = tries_left(at.left, step);
-    learn(
-        words,
-        l,
-        tables,
-        free,
-        budget.saturating_sub(left),
-        VAIN_TRIES,
-    );
+    learn(file, tables, free, budget.saturating_sub(left), VAIN_TRIES);
     let open = if free.shown { 0 } else { left };
     GapTurn {
         state: step.state,
@@ -191,25 +168,16 @@ fn vain_turn(
 }
 
 // The probe at the next gap, in an ask with this budget.
-fn probe_gap(
-    words: &[u32],
-    l: Layout,
-    tables: &[u32; TABLES],
-    st: State,
-    at: GapTurn,
-    free: &mut Findings,
-    table: &mut [u32],
-    memo: &mut [u32],
-) -> GapEnd
-    requires { GapAt words.now l tables.now st at free.old.shown table.old memo.old × (at.gap.0 < at.room.0) }
-    ensures { GapNext words.now l tables.now st table.old at table.new memo.new free.new.shown result }
+fn probe_gap(file: &File, tables: &[u32; TABLES], st: State, at: GapTurn, free: &mut Findings, table: &mut [u32], memo: &mut [u32]) -> GapEnd
+    requires { GapAt file.now tables.now st at free.old.shown table.old memo.old × (at.gap.0 < at.room.0) }
+    ensures { GapNext file.now tables.now st table.old at table.new memo.new free.new.shown result }
 {
     let probe = probe_at(at);
-    let step = probe::from_root(words, l, tables, probe, table, memo);
+    let step = probe::from_root(file, tables, probe, table, memo);
     match outcome_of(step, probe.limit) {
         Outcome::Plan => GapEnd::Found(step.state),
         Outcome::NoPlan | Outcome::Spent => {
-            GapEnd::Vain(vain_turn(words, l, tables, st.budget, at, step, free))
+            GapEnd::Vain(vain_turn(file, tables, st.budget, at, step, free))
         }
     }
 }
@@ -223,22 +191,14 @@ pub enum Probes {
 }
 
 // Probes at ceilings that rise from the root's bound. They share as many tries as the ask's budget (D76).
-pub fn probe_gaps(
-    words: &[u32],
-    l: Layout,
-    tables: &[u32; TABLES],
-    st: State,
-    free: &mut Findings,
-    table: &mut [u32],
-    memo: &mut [u32],
-) -> Probes
-    requires { SearchDue words.now l tables.now st free.old.shown table.old memo.old }
-    ensures { GapsDone words.now l tables.now table.old st table.new memo.new free.new.shown result }
+pub fn probe_gaps(file: &File, tables: &[u32; TABLES], st: State, free: &mut Findings, table: &mut [u32], memo: &mut [u32]) -> Probes
+    requires { SearchDue file.now tables.now st free.old.shown table.old memo.old }
+    ensures { GapsDone file.now tables.now table.old st table.new memo.new free.new.shown result }
 {
-    let mut at = first_turn(words, l, tables, st);
+    let mut at = first_turn(file, tables, st);
     // Each time round, the probes so far have left what is true in the table, and found nothing.
     while at.gap.0 < at.room.0 {
-        match probe_gap(words, l, tables, st, at, free, table, memo) {
+        match probe_gap(file, tables, st, at, free, table, memo) {
             GapEnd::Found(state) => return Probes::AtPlan(state),
             GapEnd::Vain(next) => at = next,
         }

@@ -7,8 +7,6 @@
 
 ghost use Rattle.std.specs.Prelude.{◌≡◌, true};
 ghost use Rattle.sums.specs.Table.{entry};
-ghost use Rattle.model.specs.Words.{problem_of};
-ghost use Rattle.instance.specs.Filed.{Filed};
 ghost use Rattle.tables.specs.Tables.{price_in};
 ghost use Rattle.relaxation.specs.Relaxed.{MemoTrue};
 ghost use Rattle.bound.specs.Tests.{some_startless, Permits, RunsOf};
@@ -16,9 +14,10 @@ ghost use Rattle.state.specs.State.{dead_at};
 ghost use Rattle.farkas.specs.Sums.{ShowsNone};
 ghost use Rattle.search.specs.Walks.{SearchDue, SearchDone};
 ghost use Rattle.search.specs.Ask.{ReplyOfDue, ReplyOf, AskDue, AskSearched, Asked};
+ghost use Rattle.instance.specs.File.{problem};
 
+use instance::File;
 use farkas::Findings;
-use model::Layout;
 use state::{State, Step, Walked};
 use tables::TABLES;
 
@@ -41,66 +40,49 @@ pub struct Reply {
 }
 
 // The walks of an ask; none where some unit has no permitted start, and where it is known that there is no schedule.
-fn search_all(
-    words: &[u32],
-    l: Layout,
-    tables: &[u32; TABLES],
-    st: State,
-    free: &mut Findings,
-    table: &mut [u32],
-    memo: &mut [u32],
-) -> Step
-    requires { SearchDue words.now l tables.now st free.old.shown table.old memo.old }
-    ensures answer { SearchDone (problem_of words.now) table.old table.new st result free.new.shown }
-    ensures startless { some_startless (problem_of words.now) ≡ true → result ≡ dead_at st 0 }
-    ensures recalls { MemoTrue (problem_of words.now) (price_in tables.now) memo.new }
+fn search_all(file: &File, tables: &[u32; TABLES], st: State, free: &mut Findings, table: &mut [u32], memo: &mut [u32]) -> Step
+    requires { SearchDue file.now tables.now st free.old.shown table.old memo.old }
+    ensures answer { SearchDone (problem file.now) table.old table.new st result free.new.shown }
+    ensures startless { some_startless (problem file.now) ≡ true → result ≡ dead_at st 0 }
+    ensures recalls { MemoTrue (problem file.now) (price_in tables.now) memo.new }
 {
-    if bound::has_no_start(words, l) {
+    if bound::has_no_start(file) {
         return state::dead_end(st, 0);
     }
     if free.shown {
         return state::dead_end(st, 0);
     }
-    probes::solve_by_probes(words, l, tables, st, free, table, memo)
+    probes::solve_by_probes(file, tables, st, free, table, memo)
 }
 
 // The walks of an ask from its ceiling and budget.
-fn search_ask(
-    words: &[u32],
-    l: Layout,
-    tables: &[u32; TABLES],
-    ask: Ask,
-    free: &mut Findings,
-    table: &mut [u32],
-    used: usize,
-    memo: &mut [u32],
-) -> Step
-    requires { AskDue words.now l tables.now ask free.old.shown table.old used memo.old }
-    ensures answer { AskSearched words.now l tables.now ask table.old used table.new result free.new.shown }
-    ensures recalls { MemoTrue (problem_of words.now) (price_in tables.now) memo.new }
+fn search_ask(file: &File, tables: &[u32; TABLES], ask: Ask, free: &mut Findings, table: &mut [u32], used: usize, memo: &mut [u32]) -> Step
+    requires { AskDue file.now tables.now ask free.old.shown table.old used memo.old }
+    ensures answer { AskSearched file.now tables.now ask table.old used table.new result free.new.shown }
+    ensures recalls { MemoTrue (problem file.now) (price_in tables.now) memo.new }
 {
     let st = state::fresh(ask.ceiling, ask.budget, &table[..], used);
-    search_all(words, l, tables, st, free, table, memo)
+    search_all(file, tables, st, free, table, memo)
 }
 
 // The runs of the best schedule, 0 where there is none.
-fn best_runs(words: &[u32], l: Layout, st: State) -> [u32; 52]
-    requires { Filed words.now l × (st.found ≡ true → Permits (problem_of words.now) (entry st.best)) }
-    ensures { st.found ≡ true → RunsOf (problem_of words.now) (entry st.best) result }
+fn best_runs(file: &File, st: State) -> [u32; 52]
+    requires { (st.found ≡ true → Permits (problem file.now) (entry st.best)) }
+    ensures { st.found ≡ true → RunsOf (problem file.now) (entry st.best) result }
 {
     if st.found {
-        return bound::runs(words, l, st.best);
+        return bound::runs(file, st.best);
     }
     [0; 52]
 }
 
 // The reply of an ask from how its search ended: the runs of the best schedule, and the conclusion in the table.
-fn make_reply(words: &[u32], l: Layout, step: Step, table: &mut [u32]) -> Reply
-    requires { ReplyOfDue words.now l step table.old }
-    ensures { ReplyOf (problem_of words.now) step table.old table.new result }
+fn make_reply(file: &File, step: Step, table: &mut [u32]) -> Reply
+    requires { ReplyOfDue file.now step table.old }
+    ensures { ReplyOf (problem file.now) step table.old table.new result }
 {
     Reply {
-        runs: best_runs(words, l, step.state),
+        runs: best_runs(file, step.state),
         state: state::note_end(table, step.state, step.walked),
         walked: step.walked,
     }
@@ -108,21 +90,12 @@ fn make_reply(words: &[u32], l: Layout, step: Step, table: &mut [u32]) -> Reply
 
 // One ask: the earliest of the cheapest schedules at or below the ceiling, within a budget of tries. The first `used` words of the table hold true
 // nogoods, at entry and at exit, where the state says how many are in use. What is known of the free plant is true, at entry and at exit.
-pub fn solve(
-    words: &[u32],
-    l: Layout,
-    tables: &[u32; TABLES],
-    ask: Ask,
-    free: &mut Findings,
-    table: &mut [u32],
-    used: usize,
-    memo: &mut [u32],
-) -> Reply
-    requires { AskDue words.now l tables.now ask free.old.shown table.old used memo.old }
-    ensures answer { Asked (problem_of words.now) ask.ceiling ask.budget table.old used table.new result }
-    ensures free { ShowsNone (problem_of words.now) free.new.shown }
-    ensures recalls { MemoTrue (problem_of words.now) (price_in tables.now) memo.new }
+pub fn solve(file: &File, tables: &[u32; TABLES], ask: Ask, free: &mut Findings, table: &mut [u32], used: usize, memo: &mut [u32]) -> Reply
+    requires { AskDue file.now tables.now ask free.old.shown table.old used memo.old }
+    ensures answer { Asked (problem file.now) ask.ceiling ask.budget table.old used table.new result }
+    ensures free { ShowsNone (problem file.now) free.new.shown }
+    ensures recalls { MemoTrue (problem file.now) (price_in tables.now) memo.new }
 {
-    let step = search_ask(words, l, tables, ask, free, table, used, memo);
-    make_reply(words, l, step, table)
+    let step = search_ask(file, tables, ask, free, table, used, memo);
+    make_reply(file, step, table)
 }

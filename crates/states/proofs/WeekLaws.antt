@@ -16,6 +16,8 @@ use Rattle.model.specs.Rules.{output, headcount}
 use Rattle.model.specs.Pairs.{apart}
 use Rattle.model.specs.Commitment.{Serves, line_cost, full_cost}
 use Rattle.model.specs.Plan.{Compatible}
+use Rattle.instance.specs.declared.file.File.{File}
+use Rattle.instance.specs.File.{problem}
 use Rattle.blame.specs.Priced.{WeekLeast}
 use Rattle.blame.proofs.PairLaws.{PairOf, apart_pair}
 use Rattle.tables.specs.Tables.{price_in, Partners}
@@ -26,8 +28,6 @@ use Rattle.states.specs.Weeks.{SCALE, place_cap, place_on, place_off, place_out,
 use Rattle.states.specs.declared.Advice.{Advice}
 use Rattle.states.specs.declared.StateNode.{StateNode}
 use Rattle.states.specs.declared.WeekTask.{WeekTask}
-use Rattle.model.specs.declared.Layout.{Layout}
-use Rattle.model.specs.Words.{problem_of}
 use Rattle.states.specs.declared.PlaceState.{PlaceState}
 use Rattle.states.specs.declared.PlaceState.TheVariants.{On, Off, Out}
 
@@ -181,19 +181,19 @@ known_node p u t a shut room crews k e = record {
   crews = ⊎_elim (λ (z : crews ≡ room). omega (arith, z, k.crews)) (λ (z : crews ≡ p.crews). omega (arith, z)) e;
 }
 
-pub week_answer : (ws xs : List ℕ) (cs : Costs) (l : Layout) (w : WeekTask) (y : StateNode) (v best : ℕ) → WeekDue ws l xs w
-    → PlacesTo (problem_of ws) xs w.week (has w.out) l.units cs → WeekNodeIs (problem_of ws) w y
-    → ChoiceFloor (places_of cs y.bar) l.units y.need y.crews (has y.bar) y.score best → v * SCALE ≤ best + (SCALE - 1)
-    → WeekLeast (problem_of ws) (price_in xs) w.week (has w.out) v
-week_answer ws xs cs l w y v best due places node floor small =
-    let p = problem_of ws in
+pub week_answer : (file : File) (xs : List ℕ) (cs : Costs) (w : WeekTask) (y : StateNode) (v best : ℕ) → WeekDue file xs w
+    → PlacesTo (problem file) xs w.week (has w.out) file.layout.units cs → WeekNodeIs (problem file) w y
+    → ChoiceFloor (places_of cs y.bar) file.layout.units y.need y.crews (has y.bar) y.score best → v * SCALE ≤ best + (SCALE - 1)
+    → WeekLeast (problem file) (price_in xs) w.week (has w.out) v
+week_answer file xs cs w y v best due places node floor small =
+    let p = problem file in
     week_floor p xs cs w.week (has w.out) w.shut y.crews
-    (subst (λ (n : ℕ). PlacesTo p xs w.week (has w.out) n cs) (sym due.filed.units_are) places) due.priced.partners
+    (subst (λ (n : ℕ). PlacesTo p xs w.week (has w.out) n cs) (sym file.filed.units_are) places) due.priced.partners
     (known_node p (price_in xs) w.week (has w.out) w.shut w.room y.crews due.known node.left) v best
-    (subst (λ (n : ℕ). ChoiceFloor (places_of cs w.shut) n (p.demand w.week) y.crews (has w.shut) 0 best) (sym due.filed.units_are)
-    (subst (λ (n : ℕ). ChoiceFloor (places_of cs n) l.units (p.demand w.week) y.crews (has n) 0 best) node.bar
-    (subst (λ (n : ℕ). ChoiceFloor (places_of cs y.bar) l.units n y.crews (has y.bar) 0 best) node.need
-    (subst (λ (n : ℕ). ChoiceFloor (places_of cs y.bar) l.units y.need y.crews (has y.bar) n best) node.score floor))))
+    (subst (λ (n : ℕ). ChoiceFloor (places_of cs w.shut) n (p.demand w.week) y.crews (has w.shut) 0 best) (sym file.filed.units_are)
+    (subst (λ (n : ℕ). ChoiceFloor (places_of cs n) file.layout.units (p.demand w.week) y.crews (has n) 0 best) node.bar
+    (subst (λ (n : ℕ). ChoiceFloor (places_of cs y.bar) file.layout.units n y.crews (has y.bar) 0 best) node.need
+    (subst (λ (n : ℕ). ChoiceFloor (places_of cs y.bar) file.layout.units y.need y.crews (has y.bar) n best) node.score floor))))
     small
 
 pub week_less : (most best v start : ℕ) → start ≡ most * SCALE → best ≤ start → v * SCALE ≤ best + (SCALE - 1) → v ≤ most

@@ -4,12 +4,11 @@
 use Rattle.std.specs.Prelude.{ℕ, ◌+◌, ◌*◌, ◌≤◌, ◌<◌, ◌≡◌, true, ◌⊎◌, List, length, get_or}
 use Rattle.sums.specs.Logic.{if}
 use Rattle.sums.specs.NumSet.{NumSet, has}
-use Rattle.model.specs.declared.Layout.{Layout}
 use Rattle.model.specs.Problem.{Problem}
-use Rattle.model.specs.Words.{problem_of}
 use Rattle.model.specs.Rules.{headcount}
 use Rattle.model.specs.Plan.{Compatible}
-use Rattle.instance.specs.Filed.{Filed}
+use Rattle.instance.specs.declared.file.File.{File}
+use Rattle.instance.specs.File.{problem}
 use Rattle.tables.specs.Tables.{price_in, partners_in, Priced}
 use Rattle.states.specs.SearchTables.{CostsInRange, MOST_SCORE}
 use Rattle.states.specs.declared.Costs.{Costs}
@@ -59,11 +58,10 @@ pub record OutKnown (p : Problem) (u : ℕ → ℕ → ℕ) (t : ℕ) (a : NumSe
   pub crews : p.crews ≤ headcount p a + room
 
 -- a week of a file at the prices of a table
-pub record WeekDue (ws : List ℕ) (l : Layout) (xs : List ℕ) (w : WeekTask) : Type 0 where
-  pub filed : Filed ws l
-  pub week : w.week < l.weeks
-  pub priced : Priced (problem_of ws) xs
-  pub known : OutKnown (problem_of ws) (price_in xs) w.week (has w.out) w.shut w.room
+pub record WeekDue (file : File) (xs : List ℕ) (w : WeekTask) : Type 0 where
+  pub week : w.week < file.layout.weeks
+  pub priced : Priced (problem file) xs
+  pub known : OutKnown (problem file) (price_in xs) w.week (has w.out) w.shut w.room
   pub small : w.most.0 * SCALE ≤ MOST_SCORE
 
 -- the node of a week before any unit is decided

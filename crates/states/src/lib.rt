@@ -7,16 +7,14 @@
 
 ghost use Rattle.std.specs.Prelude.{◌≡◌, ◌⊎◌, ◌+◌, ◌-◌, ◌*◌, ◌<◌, ◌≤◌};
 ghost use Rattle.sums.specs.NumSet.{has};
-ghost use Rattle.model.specs.Words.{problem_of};
-ghost use Rattle.instance.specs.Filed.{Filed};
 ghost use Rattle.blame.specs.Priced.{WeekLeast};
 ghost use Rattle.tables.specs.Tables.{price_in};
 ghost use Rattle.states.specs.Choices.{ChoiceFloor};
 ghost use Rattle.states.specs.SearchTables.{CostsInRange, MOST_SCORE, places_of};
 ghost use Rattle.states.specs.Weeks.{SCALE, WeekNodeIs, WeekDue};
+ghost use Rattle.instance.specs.File.{problem};
 
-use instance::Euro;
-use model::Layout;
+use instance::{Euro, File};
 use tables::TABLES;
 
 mod bounds;
@@ -137,21 +135,20 @@ fn search(costs: &Costs, units: usize, y: StateNode, low: StateFound) -> StateFo
 }
 
 // The crews left, as far as the file has any.
-fn crews_left(words: &[u32], l: Layout, room: usize) -> u64
-    requires { Filed words.now l }
-    ensures { (result ≤ 16) × (result ≤ room) × ((result ≡ room) ⊎ (result ≡ (problem_of words.now).crews)) }
+fn crews_left(file: &File, room: usize) -> u64
+    ensures { (result ≤ 16) × (result ≤ room) × ((result ≡ room) ⊎ (result ≡ (problem file.now).crews)) }
 {
-    room.min(instance::crews(words, l)) as u64
+    room.min(file.crews()) as u64
 }
 
 // A week before any unit is decided.
-fn week_node(words: &[u32], l: Layout, w: WeekTask) -> StateNode
-    requires { Filed words.now l × (w.week < l.weeks) }
-    ensures { WeekNodeIs (problem_of words.now) w result }
+fn week_node(file: &File, w: WeekTask) -> StateNode
+    requires { (w.week < file.now.layout.weeks) }
+    ensures { WeekNodeIs (problem file.now) w result }
 {
     StateNode {
-        need: instance::demand(words, l, w.week).0,
-        crews: crews_left(words, l, w.room),
+        need: file.demand(w.week).0,
+        crews: crews_left(file, w.room),
         bar: w.shut,
         score: 0,
         out: w.out,
@@ -160,19 +157,19 @@ fn week_node(words: &[u32], l: Layout, w: WeekTask) -> StateNode
 
 // What week w is worth at least with its units out, and others perhaps, by three states for each unit; no more than its most. Any most and any fuel
 // give a lower bound; with a most that some choice comes to, and fuel enough, it is the least.
-pub fn week_least(words: &[u32], l: Layout, tables: &[u32; TABLES], w: WeekTask) -> WeekFloor
-    requires { WeekDue words.now l tables.now w }
-    ensures answer { WeekLeast (problem_of words.now) (price_in tables.now) w.week (has w.out) result.value.0 }
+pub fn week_least(file: &File, tables: &[u32; TABLES], w: WeekTask) -> WeekFloor
+    requires { WeekDue file.now tables.now w }
+    ensures answer { WeekLeast (problem file.now) (price_in tables.now) w.week (has w.out) result.value.0 }
     ensures less { result.value.0 ≤ w.most.0 }
 {
-    let costs = places::week_costs(words, l, tables, w.week, w.out);
-    let y = week_node(words, l, w);
+    let costs = places::week_costs(file, tables, w.week, w.out);
+    let y = week_node(file, w);
     let low = StateFound {
         best: w.most.0 * SCALE,
         fuel: w.fuel,
         out: w.out,
     };
-    let found = search(&costs, l.units, y, low);
+    let found = search(&costs, file.layout.units, y, low);
     WeekFloor {
         value: unscaled(found.best),
         out: found.out,

@@ -15,11 +15,10 @@ use Rattle.sums.specs.Logic.{if}
 use Rattle.sums.specs.Sum.{sum_to, transposed}
 use Rattle.sums.specs.NumSet.{has}
 use Rattle.sums.proofs.LoopLaws.{zeros_at, sum_next}
-use Rattle.model.specs.declared.Layout.{Layout}
 use Rattle.model.specs.Problem.{Problem}
 use Rattle.model.specs.Pairs.{apart}
-use Rattle.model.specs.Words.{problem_of}
-use Rattle.instance.specs.Filed.{Filed}
+use Rattle.instance.specs.declared.file.File.{File}
+use Rattle.instance.specs.File.{problem}
 use Rattle.overhaul.specs.Off.{off_weeks}
 use Rattle.tables.specs.Tables.{TABLES, PARTNERS, OFFS, START_COSTS, MOST_PRICE, MOST_OFF, price_at, price_in, partners_in, off_in, unit_total}
 use Rattle.tables.specs.Tables.{Prices, PartnersOf, Partners, Priced, First, Begins}
@@ -156,9 +155,9 @@ first_next p xs n u v w h l few e off small = record {
     most i m (no q) = omega (arith, old i (omega arith), h.offs.small i (omega arith))
 
 -- all of them
-pub first_ended : (ws : List ℕ) (l : Layout) (xs : List ℕ) (n u : ℕ) → Filed ws l → First (problem_of ws) n xs → u ≡ l.units → n ≤ u → u ≤ n
-    → First (problem_of ws) (problem_of ws).units xs
-first_ended ws l xs n u f h is a b = let e : n ≡ (problem_of ws).units = omega (arith, f.units_are) in rw e at h
+pub first_ended : (file : File) (xs : List ℕ) (n u : ℕ) → First (problem file) n xs → u ≡ file.layout.units → n ≤ u → u ≤ n
+    → First (problem file) (problem file).units xs
+first_ended file xs n u h is a b = let e : n ≡ (problem file).units = omega (arith, file.filed.units_are) in rw e at h
 
 -- such prices are 0
 pub first_priced : (p : Problem) (xs : List ℕ) → First p p.units xs → Priced p xs
@@ -183,10 +182,10 @@ pub begins_prices : (n : ℕ) (xs ys : List ℕ) → Begins n xs ys → PARTNERS
 begins_prices n xs ys h far = prices_same xs ys (λ k l. h.same k (omega arith))
 
 -- so it is priced as the other is
-pub begins_priced : (ws : List ℕ) (l : Layout) (n : ℕ) (xs ys : List ℕ) → Filed ws l → Begins n xs ys → START_COSTS ≤ n → Priced (problem_of ws) xs
-    → Priced (problem_of ws) ys
+pub begins_priced : (file : File) (n : ℕ) (xs ys : List ℕ) → Begins n xs ys → START_COSTS ≤ n → Priced (problem file) xs
+    → Priced (problem file) ys
 unfolding partners_in off_in
-begins_priced ws l n xs ys f h far priced = record {
+begins_priced file n xs ys h far priced = record {
   long = h.long;
   prices = record { small = λ k m. rw (h.same k (omega arith)) (priced.prices.small k m) };
   partners = record { each = λ i m. rw (h.same (PARTNERS + i) (omega (arith, few))) (priced.partners.each i m) };
@@ -196,5 +195,5 @@ begins_priced ws l n xs ys f h far priced = record {
   };
 }
   where
-    few : (problem_of ws).units ≤ 16
-    few = omega (arith, f.units_most, f.units_are)
+    few : (problem file).units ≤ 16
+    few = omega (arith, file.filed.units_most, file.filed.units_are)

@@ -5,11 +5,10 @@
 
 ghost use Rattle.std.specs.Prelude.{◌≡◌, ◌+◌, ◌*◌, ◌<◌, ◌≤◌};
 ghost use Rattle.sums.specs.Sum.{sum_to};
-ghost use Rattle.model.specs.Words.{problem_of};
-ghost use Rattle.instance.specs.Filed.{Filed};
 ghost use Rattle.tables.specs.Tables.{MOST_PRICE, AMOUNTS, price_in, partners_in, off_in, excess_in, root_in, total_in, hard_in, unit_total, Prices, First};
+ghost use Rattle.instance.specs.File.{problem};
 
-use instance::Euro;
+use instance::{Euro, File};
 use model::Layout;
 
 // The words of the table.
@@ -99,7 +98,7 @@ fn unit_total(l: Layout, tables: &[u32; TABLES], i: usize) -> Euro
     let weeks = l.weeks;
     let mut sum = off_cost(tables, i);
     for t in 0..weeks {
-        sum = sum.plus(price(tables, t, i));
+        sum += price(tables, t, i);
     }
     sum
 }
@@ -112,21 +111,20 @@ pub fn sum_total(l: Layout, tables: &[u32; TABLES]) -> Euro
     let n = l.units;
     let mut sum = Euro(0);
     for i in 0..n {
-        sum = sum.plus(unit_total(l, tables, i));
+        sum += unit_total(l, tables, i);
     }
     sum
 }
 
 // The table of a file before prices are found: each unit's partners and OFF cost, and 0 elsewhere.
-pub fn first(words: &[u32], l: Layout) -> [u32; TABLES]
-    requires { Filed words.now l }
-    ensures { First (problem_of words.now) (problem_of words.now).units result }
+pub fn first(file: &File) -> [u32; TABLES]
+    ensures { First (problem file.now) (problem file.now).units result }
 {
-    let units = l.units;
+    let units = file.layout.units;
     let mut tables: [u32; TABLES] = [0; TABLES];
     for i in 0..units {
-        tables[PARTNERS + i] = instance::partners(words, l, i);
-        tables[OFFS + i] = overhaul::off_weeks(words, l, i).0 as u32;
+        tables[PARTNERS + i] = file.partners(i);
+        tables[OFFS + i] = overhaul::off_weeks(file, i).0 as u32;
     }
     tables
 }

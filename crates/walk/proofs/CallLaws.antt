@@ -8,12 +8,12 @@ use native.Mathlib.Omega.{arith}
 use lib.ListN.{length, set}
 use borrow.Author.Tests.{ltb-true, lt-ltb}
 use Rattle.sums.specs.Table.{entry}
-use Rattle.model.specs.declared.Layout.{Layout}
 use Rattle.model.specs.Problem.{Problem}
 use Rattle.model.specs.Prefix.{tree_size}
 use Rattle.model.specs.Nogood.{MOST_LIMIT}
-use Rattle.model.specs.Words.{problem_of}
 use Rattle.model.proofs.FileLaws.{fair}
+use Rattle.instance.specs.declared.file.File.{File}
+use Rattle.instance.specs.File.{problem}
 use Rattle.instance.specs.Filed.{Filed}
 use Rattle.overhaul.specs.Range.{StartRange}
 use Rattle.nogood.proofs.StockLaws.{stock_within}
@@ -38,49 +38,45 @@ use Rattle.walk.proofs.JudgedLaws.{try_few}
 use Rattle.walk.proofs.UnitLaws.{Trying, trying_none, some_start, untried, done_spent, done_jump, trying_more, done_all}
 
 -- the same file and table, with a memo that has changed
-walking_on : (ws : List ℕ) (l : Layout) (us memo memo' : List ℕ) → Walking ws l us memo → MemoTrue (problem_of ws) (price_in us) memo'
-    → Walking ws l us memo'
-walking_on ws l us memo memo' h r = record { filed = h.filed; dual = h.dual; recalls = r }
+walking_on : (file : File) (us memo memo' : List ℕ) → Walking file us memo → MemoTrue (problem file) (price_in us) memo'
+    → Walking file us memo'
+walking_on file us memo memo' h r = record { dual = h.dual; recalls = r }
 
 -- ---- a unit is placed
 
 -- a unit was open in a state and with a table; its starts from the first to before the end are tried, and those below v have failed
-pub record Starting (ws : List ℕ) (l : Layout) (us rows ys : List ℕ) (node : Node) (st : State) (w : List ℕ) (first end : ℕ) (w₁ : List ℕ) (s : State)
+pub record Starting (file : File) (us rows ys : List ℕ) (node : Node) (st : State) (w : List ℕ) (first end : ℕ) (w₁ : List ℕ) (s : State)
     (blame v : ℕ) (memo : List ℕ) : Type 0 where
-  pub walking : Walking ws l us memo
-  pub open_at : Open (problem_of ws) w us rows ys node st
-  pub inside : node.unit < (problem_of ws).units
+  pub walking : Walking file us memo
+  pub open_at : Open (problem file) w us rows ys node st
+  pub inside : node.unit < (problem file).units
   pub last : ℕ
   pub to_last : end ≡ last + 1
-  pub range : StartRange (problem_of ws) node.unit first last
-  pub ends : last ≤ (problem_of ws).weeks
-  pub trying : Trying (problem_of ws) w w₁ node.starts node.unit st s blame first v
+  pub range : StartRange (problem file) node.unit first last
+  pub ends : last ≤ (problem file).weeks
+  pub trying : Trying (problem file) w w₁ node.starts node.unit st s blame first v
 
 -- as one fact
-unfoldable pub Starts : (ws : List ℕ) → Layout → (us rows ys : List ℕ) → Node → State → (w : List ℕ) → (first end : ℕ) → (w₁ : List ℕ) → State
+unfoldable pub Starts : (file : File) → (us rows ys : List ℕ) → Node → State → (w : List ℕ) → (first end : ℕ) → (w₁ : List ℕ) → State
     → (blame v : ℕ) → (memo : List ℕ) → Type 0
-Starts ws l us rows ys node st w first end w₁ s blame v memo = Starting ws l us rows ys node st w first end w₁ s blame v memo
+Starts file us rows ys node st w first end w₁ s blame v memo = Starting file us rows ys node st w first end w₁ s blame v memo
 
-module _ (ws : List ℕ) (l : Layout) (us rows ys : List ℕ) (at : Visit) (w memo : List ℕ) (d : PlaceDue ws l us rows ys at w memo) where
+module _ (file : File) (us rows ys : List ℕ) (at : Visit) (w memo : List ℕ) (d : PlaceDue file us rows ys at w memo) where
   abbrev p : Problem
-  p = problem_of ws
-
-  f : Filed ws l
-  unfolding PlaceDue Starts
-  f = d.walking.filed
+  p = problem file
 
   -- it has a file
-  pub place_filed : Filed ws l
+  pub place_filed : Filed file.words.now file.layout
   unfolding PlaceDue
-  place_filed = d.walking.filed
+  place_filed = file.filed
 
   -- all units are placed
-  pub place_leaf : l.units ≤ at.node.unit → LeafDue ws l us rows ys at memo
+  pub place_leaf : file.layout.units ≤ at.node.unit → LeafDue file us rows ys at memo
   unfolding PlaceDue LeafDue
   place_leaf last = record {
     walking = d.walking;
     whole = record {
-      all = λ i h. d.open_at.order.each i ∙ lt-ltb i at.node.unit (omega (arith, d.open_at.unit, f.units_are));
+      all = λ i h. d.open_at.order.each i ∙ lt-ltb i at.node.unit (omega (arith, d.open_at.unit, file.filed.units_are));
       within = λ i e. omega (arith, ltb-true i at.node.unit (sym (d.open_at.order.each i) ∙ e), d.open_at.unit);
     };
     stands = d.open_at.stands;
@@ -89,22 +85,22 @@ module _ (ws : List ℕ) (l : Layout) (us rows ys : List ℕ) (at : Visit) (w me
   }
 
   -- and the schedule was weighed
-  pub place_weighed : (step : Step) → l.units ≤ at.node.unit → Leaf (problem_of ws) at.node.starts at.state step
-      → PlaceDone (problem_of ws) w w at.node at.state step
+  pub place_weighed : (step : Step) → file.layout.units ≤ at.node.unit → Leaf (problem file) at.node.starts at.state step
+      → PlaceDone (problem file) w w at.node at.state step
   unfolding PlaceDue PlaceDone
   place_weighed step last h =
-      done_leaf (problem_of ws) w us rows ys at.node at.state d.open_at (fair ws f.passed) (omega (arith, d.open_at.unit, f.units_are)) step h
+      done_leaf (problem file) w us rows ys at.node at.state d.open_at (fair file.words.now file.filed.passed) (omega (arith, d.open_at.unit, file.filed.units_are)) step h
 
   -- the number after its last start fits a word
-  pub place_fits : (last : ℕ) → last ≤ l.weeks → last + 1 < 18446744073709551616
-  place_fits last ends = omega (arith, f.weeks_most)
+  pub place_fits : (last : ℕ) → last ≤ file.layout.weeks → last + 1 < 18446744073709551616
+  place_fits last ends = omega (arith, file.filed.weeks_most)
 
   -- no start was tried
-  pub place_starts : (first last : ℕ) → at.node.unit < l.units → StartRange (problem_of ws) at.node.unit first last → last ≤ l.weeks
-      → Starts ws l us rows ys at.node at.state w first (last + 1) w at.state 0 first memo
+  pub place_starts : (first last : ℕ) → at.node.unit < file.layout.units → StartRange (problem file) at.node.unit first last → last ≤ file.layout.weeks
+      → Starts file us rows ys at.node at.state w first (last + 1) w at.state 0 first memo
   unfolding PlaceDue Starts
   place_starts first last inside range ends =
-      let in_units : at.node.unit < p.units = omega (arith, f.units_are) in
+      let in_units : at.node.unit < p.units = omega (arith, file.filed.units_are) in
       record {
         walking = d.walking;
         open_at = d.open_at;
@@ -112,23 +108,23 @@ module _ (ws : List ℕ) (l : Layout) (us rows ys : List ℕ) (at : Visit) (w me
         last = last;
         to_last = refl;
         range = range;
-        ends = omega (arith, f.weeks_are);
+        ends = omega (arith, file.filed.weeks_are);
         trying = trying_none p w us rows ys at.node at.state first last range in_units d.open_at;
       }
 
-module _ (ws : List ℕ) (l : Layout) (us rows ys : List ℕ) (node : Node) (st : State) (w : List ℕ) (first end : ℕ) (w₁ : List ℕ) (s : State)
-    (blame v : ℕ) (memo₁ : List ℕ) (h : Starts ws l us rows ys node st w first end w₁ s blame v memo₁) where
+module _ (file : File) (us rows ys : List ℕ) (node : Node) (st : State) (w : List ℕ) (first end : ℕ) (w₁ : List ℕ) (s : State)
+    (blame v : ℕ) (memo₁ : List ℕ) (h : Starts file us rows ys node st w first end w₁ s blame v memo₁) where
   abbrev prob : Problem
-  prob = problem_of ws
+  prob = problem file
 
-  t : Trying (problem_of ws) w w₁ node.starts node.unit st s blame first v
+  t : Trying (problem file) w w₁ node.starts node.unit st s blame first v
   unfolding Starts TryDue TryDone PlaceDone
   t = h.trying
 
   -- a unit is one of sixteen
   pub starts_few : node.unit < 16
   unfolding Starts TryDue TryDone PlaceDone
-  starts_few = omega (arith, h.inside, h.walking.filed.units_are, h.walking.filed.units_most)
+  starts_few = omega (arith, h.inside, file.filed.units_are, file.filed.units_most)
 
   pub starts_small : node.unit < 32
   unfolding Starts TryDue TryDone PlaceDone
@@ -137,7 +133,7 @@ module _ (ws : List ℕ) (l : Layout) (us rows ys : List ℕ) (node : Node) (st 
   -- a start is one of 52
   pub starts_within : v < end → v ≤ 52
   unfolding Starts TryDue TryDone PlaceDone
-  starts_within here = omega (arith, h.to_last, h.ends, h.walking.filed.weeks_are, h.walking.filed.weeks_most)
+  starts_within here = omega (arith, h.to_last, h.ends, file.filed.weeks_are, file.filed.weeks_most)
 
   -- a dead end can be noted
   pub starts_used : s.used ≤ length w₁
@@ -152,13 +148,13 @@ module _ (ws : List ℕ) (l : Layout) (us rows ys : List ℕ) (node : Node) (st 
   starts_limit = le_trans t.later.falls h.open_at.small
 
   -- the memo recalls
-  pub starts_recalls : MemoTrue (problem_of ws) (price_in us) memo₁
+  pub starts_recalls : MemoTrue (problem file) (price_in us) memo₁
   unfolding Starts TryDue TryDone PlaceDone
   starts_recalls = h.walking.recalls
 
   -- all starts have failed, and the dead end was noted or not
   pub starts_done : (w₂ : List ℕ) (r : State) (step : Step) → end ≤ v → DeadEndNoted w₁ w₂ s r node.starts node.unit blame
-      → step ≡ dead_at r blame → PlaceDone (problem_of ws) w w₂ node st step
+      → step ≡ dead_at r blame → PlaceDone (problem file) w w₂ node st step
   unfolding Starts TryDue TryDone PlaceDone
   starts_done w₂ r step ended k is =
       subst (PlaceDone prob w w₂ node st) (sym is)
@@ -170,16 +166,16 @@ module _ (ws : List ℕ) (l : Layout) (us rows ys : List ℕ) (node : Node) (st 
 
   module _ (here : v < end) (next : Visit) (start : IsStart node v s next) where
     -- the next start is tried
-    pub starts_try : TryDue ws l us rows ys next w₁ memo₁
+    pub starts_try : TryDue file us rows ys next w₁ memo₁
     unfolding Starts TryDue
-    starts_try = subst (λ (x : Visit). TryNeeds ws l us rows ys x w₁ memo₁) (sym start.is) (record {
+    starts_try = subst (λ (x : Visit). TryNeeds file us rows ys x w₁ memo₁) (sym start.is) (record {
       walking = h.walking;
       untried = untried prob w w₁ us rows ys node st s blame first h.last v h.range h.ends h.inside h.open_at t (omega (arith, h.to_last));
     })
 
     -- with fewer places at and below it
-    pub starts_fall : (n : ℕ) → 2 * tree_size (problem_of ws) ((problem_of ws).units - node.unit) - 1 ≡ n
-        → 2 * tree_size (problem_of ws) ((problem_of ws).units - suc next.node.unit) < n
+    pub starts_fall : (n : ℕ) → 2 * tree_size (problem file) ((problem file).units - node.unit) - 1 ≡ n
+        → 2 * tree_size (problem file) ((problem file).units - suc next.node.unit) < n
     unfolding Starts
     starts_fall n e =
         subst (λ (x : Visit). 2 * tree_size prob (prob.units - suc x.node.unit) < n) (sym start.is)
@@ -187,34 +183,34 @@ module _ (ws : List ℕ) (l : Layout) (us rows ys : List ℕ) (node : Node) (st 
         (places_to_try prob node.unit h.inside
         (some_start prob w w₁ us rows ys node st s blame first h.last v h.range h.ends h.inside h.open_at t (omega (arith, h.to_last)))))
 
-    module _ (w₂ : List ℕ) (step : Step) (done : TryDone (problem_of ws) w₁ w₂ next step) (turn : Option ℕ) (told : TurnOf step blame node.unit turn) where
-      own : Done (problem_of ws) w₁ w₂ (set node.starts node.unit v) (node.unit + 1) (try_room (problem_of ws) node.unit) s step
+    module _ (w₂ : List ℕ) (step : Step) (done : TryDone (problem file) w₁ w₂ next step) (turn : Option ℕ) (told : TurnOf step blame node.unit turn) where
+      own : Done (problem file) w₁ w₂ (set node.starts node.unit v) (node.unit + 1) (try_room (problem file) node.unit) s step
       unfolding TryDone
       own = subst (λ (x : Visit). TryDone prob w₁ w₂ x step) start.is done
 
       -- the budget is spent, or the unit has no share in the dead end: the walk jumps back
-      left : turn ≡ None → PlaceDone (problem_of ws) w w₂ node st step
+      left : turn ≡ None → PlaceDone (problem file) w w₂ node st step
       unfolding Starts PlaceDone
       left so = go step.walked refl (subst (TurnOf step blame node.unit) so told)
         where
           go : (k : Walked) → step.walked ≡ k → LeavesUnit node.unit k
-              → Done (problem_of ws) w w₂ node.starts node.unit (place_room (problem_of ws) node.unit) st step
+              → Done (problem file) w w₂ node.starts node.unit (place_room (problem file) node.unit) st step
           go (Spent m) e _ =
               done_spent prob w w₁ us rows ys node st s blame first h.last v h.range h.ends h.inside h.open_at t (omega (arith, h.to_last)) w₂ step own m e
           go (Dead b) e free =
               done_jump prob w w₁ us rows ys node st s blame first h.last v h.range h.ends h.inside h.open_at t (omega (arith, h.to_last)) w₂ step own b e free
 
       -- it shares it: the next start
-      next_start : (memo₂ : List ℕ) (both : ℕ) → turn ≡ Some both → MemoTrue (problem_of ws) (price_in us) memo₂
-          → Starts ws l us rows ys node st w first end w₂ step.state both (v + 1) memo₂
+      next_start : (memo₂ : List ℕ) (both : ℕ) → turn ≡ Some both → MemoTrue (problem file) (price_in us) memo₂
+          → Starts file us rows ys node st w first end w₂ step.state both (v + 1) memo₂
       unfolding Starts
       next_start memo₂ both so recalls = go step.walked refl (subst (TurnOf step blame node.unit) so told)
         where
           go : (k : Walked) → step.walked ≡ k → GoesOn blame node.unit both k
-              → Starting ws l us rows ys node st w first end w₂ step.state both (v + 1) memo₂
+              → Starting file us rows ys node st w first end w₂ step.state both (v + 1) memo₂
           go (Spent m) e x = absurd x
           go (Dead b) e union = record {
-            walking = walking_on ws l us memo₁ memo₂ h.walking recalls;
+            walking = walking_on file us memo₁ memo₂ h.walking recalls;
             open_at = h.open_at;
             inside = h.inside;
             last = h.last;
@@ -226,20 +222,20 @@ module _ (ws : List ℕ) (l : Layout) (us rows ys : List ℕ) (node : Node) (st 
           }
 
 -- the same two with the facts that a search tells apart first
-pub starts_left : (ws : List ℕ) (l : Layout) (us rows ys : List ℕ) (node : Node) (st : State) (w : List ℕ) (first end : ℕ) (w₁ : List ℕ) (s : State)
+pub starts_left : (file : File) (us rows ys : List ℕ) (node : Node) (st : State) (w : List ℕ) (first end : ℕ) (w₁ : List ℕ) (s : State)
     (blame v : ℕ) (memo₁ : List ℕ) (next : Visit) (w₂ : List ℕ) (step : Step) (turn : Option ℕ)
-    → Starts ws l us rows ys node st w first end w₁ s blame v memo₁ → IsStart node v s next → TryDone (problem_of ws) w₁ w₂ next step
-    → TurnOf step blame node.unit turn → v < end → turn ≡ None → PlaceDone (problem_of ws) w w₂ node st step
-starts_left ws l us rows ys node st w first end w₁ s blame v memo₁ next w₂ step turn h start done told here =
-    left ws l us rows ys node st w first end w₁ s blame v memo₁ h here next start w₂ step done turn told
+    → Starts file us rows ys node st w first end w₁ s blame v memo₁ → IsStart node v s next → TryDone (problem file) w₁ w₂ next step
+    → TurnOf step blame node.unit turn → v < end → turn ≡ None → PlaceDone (problem file) w w₂ node st step
+starts_left file us rows ys node st w first end w₁ s blame v memo₁ next w₂ step turn h start done told here =
+    left file us rows ys node st w first end w₁ s blame v memo₁ h here next start w₂ step done turn told
 
-pub starts_next : (ws : List ℕ) (l : Layout) (us rows ys : List ℕ) (node : Node) (st : State) (w : List ℕ) (first end : ℕ) (w₁ : List ℕ) (s : State)
+pub starts_next : (file : File) (us rows ys : List ℕ) (node : Node) (st : State) (w : List ℕ) (first end : ℕ) (w₁ : List ℕ) (s : State)
     (blame v : ℕ) (memo₁ : List ℕ) (next : Visit) (w₂ : List ℕ) (step : Step) (turn : Option ℕ) (both : ℕ) (memo₂ : List ℕ)
-    → Starts ws l us rows ys node st w first end w₁ s blame v memo₁ → IsStart node v s next → TryDone (problem_of ws) w₁ w₂ next step
-    → TurnOf step blame node.unit turn → MemoTrue (problem_of ws) (price_in us) memo₂ → v < end → turn ≡ Some both
-    → Starts ws l us rows ys node st w first end w₂ step.state both (v + 1) memo₂
-starts_next ws l us rows ys node st w first end w₁ s blame v memo₁ next w₂ step turn both memo₂ h start done told recalls here so =
-    next_start ws l us rows ys node st w first end w₁ s blame v memo₁ h here next start w₂ step done turn told memo₂ both so recalls
+    → Starts file us rows ys node st w first end w₁ s blame v memo₁ → IsStart node v s next → TryDone (problem file) w₁ w₂ next step
+    → TurnOf step blame node.unit turn → MemoTrue (problem file) (price_in us) memo₂ → v < end → turn ≡ Some both
+    → Starts file us rows ys node st w first end w₂ step.state both (v + 1) memo₂
+starts_next file us rows ys node st w first end w₁ s blame v memo₁ next w₂ step turn both memo₂ h start done told recalls here so =
+    next_start file us rows ys node st w first end w₁ s blame v memo₁ h here next start w₂ step done turn told memo₂ both so recalls
 
 -- a table keeps its length
 pub place_long : (p : Problem) (w₀ w w' : List ℕ) (at : Visit) (step : Step) → TryDone p w w' at step → length w ≡ length w₀ → length w' ≡ length w₀
@@ -248,13 +244,9 @@ place_long p w₀ w w' at step d e = d.later.carried.long ∙ e
 
 -- ---- a start is tried
 
-module _ (ws : List ℕ) (l : Layout) (us rows ys : List ℕ) (at : Visit) (w memo : List ℕ) (d : TryDue ws l us rows ys at w memo) where
-  file : Filed ws l
-  unfolding TryDue PlaceDue TryDone PlaceDone
-  file = d.walking.filed
-
+module _ (file : File) (us rows ys : List ℕ) (at : Visit) (w memo : List ℕ) (d : TryDue file us rows ys at w memo) where
   -- and a memo
-  pub try_recalls : MemoTrue (problem_of ws) (price_in us) memo
+  pub try_recalls : MemoTrue (problem file) (price_in us) memo
   unfolding TryDue
   try_recalls = d.walking.recalls
 
@@ -266,75 +258,75 @@ module _ (ws : List ℕ) (l : Layout) (us rows ys : List ℕ) (at : Visit) (w me
   -- the next unit's number fits a word
   pub try_fits : at.node.unit + 1 < 18446744073709551616
   unfolding TryDue PlaceDue TryDone PlaceDone
-  try_fits = let few = try_few ws l us rows ys at w memo d in omega arith
+  try_fits = let few = try_few file us rows ys at w memo d in omega arith
 
   -- the budget is spent
   pub try_stops : (k : ℕ) (step : Step) → k ≡ at.node.unit + 1 → at.state.budget ≤ at.state.tries
-      → step ≡ stopped_at at.state at.node.starts k → TryDone (problem_of ws) w w at step
+      → step ≡ stopped_at at.state at.node.starts k → TryDone (problem file) w w at step
   unfolding TryDue PlaceDue TryDone PlaceDone
   try_stops k step e h is =
-      subst (TryDone (problem_of ws) w w at) (sym is) (done_stopped (problem_of ws) w us rows ys at.node at.state d.untried k e h)
+      subst (TryDone (problem file) w w at) (sym is) (done_stopped (problem file) w us rows ys at.node at.state d.untried k e h)
 
 -- it fails
-pub taken_fails : (ws : List ℕ) (l : Layout) (us rows ys : List ℕ) (at : Visit) (w memo zs memo₁ : List ℕ) (r : Result Visit ℕ)
-    → TryTaken ws l us rows ys at w memo zs memo₁ r → (b : ℕ) (s : State) (step : Step) → r ≡ Err b → s ≡ tried_once at.state → step ≡ dead_at s b
-    → TryDone (problem_of ws) w w at step
+pub taken_fails : (file : File) (us rows ys : List ℕ) (at : Visit) (w memo zs memo₁ : List ℕ) (r : Result Visit ℕ)
+    → TryTaken file us rows ys at w memo zs memo₁ r → (b : ℕ) (s : State) (step : Step) → r ≡ Err b → s ≡ tried_once at.state → step ≡ dead_at s b
+    → TryDone (problem file) w w at step
 unfolding TryTaken TryDone
-taken_fails ws l us rows ys at w memo zs memo₁ r j b s step t es is =
-    let d : Judging ws l us rows ys at w memo zs memo₁ (Err b) = subst (TryTaken ws l us rows ys at w memo zs memo₁) t j in
-    subst (TryDone (problem_of ws) w w at) (sym (is ∙ ap (λ (x : State). dead_at x b) es))
-    (done_fails (problem_of ws) w us rows ys at.node at.state d.due.untried b d.said)
+taken_fails file us rows ys at w memo zs memo₁ r j b s step t es is =
+    let d : Judging file us rows ys at w memo zs memo₁ (Err b) = subst (TryTaken file us rows ys at w memo zs memo₁) t j in
+    subst (TryDone (problem file) w w at) (sym (is ∙ ap (λ (x : State). dead_at x b) es))
+    (done_fails (problem file) w us rows ys at.node at.state d.due.untried b d.said)
 
-pub taken_dead_recalls : (ws : List ℕ) (l : Layout) (us rows ys : List ℕ) (at : Visit) (w memo zs memo₁ : List ℕ) (r : Result Visit ℕ) (b : ℕ)
-    → TryTaken ws l us rows ys at w memo zs memo₁ r → r ≡ Err b → MemoTrue (problem_of ws) (price_in us) memo₁
+pub taken_dead_recalls : (file : File) (us rows ys : List ℕ) (at : Visit) (w memo zs memo₁ : List ℕ) (r : Result Visit ℕ) (b : ℕ)
+    → TryTaken file us rows ys at w memo zs memo₁ r → r ≡ Err b → MemoTrue (problem file) (price_in us) memo₁
 unfolding TryTaken
-taken_dead_recalls ws l us rows ys at w memo zs memo₁ r b j t =
-    let d : Judging ws l us rows ys at w memo zs memo₁ (Err b) = subst (TryTaken ws l us rows ys at w memo zs memo₁) t j in d.recalls
+taken_dead_recalls file us rows ys at w memo zs memo₁ r b j t =
+    let d : Judging file us rows ys at w memo zs memo₁ (Err b) = subst (TryTaken file us rows ys at w memo zs memo₁) t j in d.recalls
 
 -- it holds
-module _ (ws : List ℕ) (l : Layout) (us rows ys : List ℕ) (at : Visit) (w memo zs memo₁ : List ℕ) (r : Result Visit ℕ)
-    (j : TryTaken ws l us rows ys at w memo zs memo₁ r) (next : Visit) (is : r ≡ Ok next) where
-  taken : Taken ws l us rows ys at w memo zs memo₁ next
+module _ (file : File) (us rows ys : List ℕ) (at : Visit) (w memo zs memo₁ : List ℕ) (r : Result Visit ℕ)
+    (j : TryTaken file us rows ys at w memo zs memo₁ r) (next : Visit) (is : r ≡ Ok next) where
+  taken : Taken file us rows ys at w memo zs memo₁ next
   unfolding TryTaken
-  taken = subst (TryTaken ws l us rows ys at w memo zs memo₁) is j
+  taken = subst (TryTaken file us rows ys at w memo zs memo₁) is j
 
   goes : IsNext at.node taken.bound next.node
   goes = taken.goes.node_is
 
   -- the file, and the memo as it recalls now
-  pub taken_filed : Filed ws l
-  taken_filed = taken.judging.due.walking.filed
+  pub taken_filed : Filed file.words.now file.layout
+  taken_filed = file.filed
 
-  pub taken_recalls : MemoTrue (problem_of ws) (price_in us) memo₁
+  pub taken_recalls : MemoTrue (problem file) (price_in us) memo₁
   taken_recalls = taken.judging.recalls
 
   -- what its rows ask
-  pub taken_rows : RowsDue (problem_of ws) rows (entry at.node.starts) at.node.unit
+  pub taken_rows : RowsDue (problem file) rows (entry at.node.starts) at.node.unit
   taken_rows =
       let u = taken.judging.due.untried in
       record { unit = u.unit; permits = u.permits; long = u.tallied.long; tallies = u.tallied.tallies }
 
   -- the next unit is to be placed
-  pub taken_places : (out : List ℕ) → RowsWith (problem_of ws) rows (entry at.node.starts) at.node.unit out
-      → PlaceDue ws l us out zs next w memo₁
+  pub taken_places : (out : List ℕ) → RowsWith (problem file) rows (entry at.node.starts) at.node.unit out
+      → PlaceDue file us out zs next w memo₁
   unfolding PlaceDue
   taken_places out tallied = record {
-    walking = walking_on ws l us memo memo₁ taken.judging.due.walking taken.judging.recalls;
-    open_at = subst (Open (problem_of ws) w us out zs next.node) (sym taken.goes.state_is)
-        (opened (problem_of ws) w us rows ys at.node at.state taken.judging.due.untried out zs taken.bound next.node goes taken.judging.said tallied);
+    walking = walking_on file us memo memo₁ taken.judging.due.walking taken.judging.recalls;
+    open_at = subst (Open (problem file) w us out zs next.node) (sym taken.goes.state_is)
+        (opened (problem file) w us rows ys at.node at.state taken.judging.due.untried out zs taken.bound next.node goes taken.judging.said tallied);
   }
 
   -- with fewer places below it
-  pub taken_falls : (n : ℕ) → 2 * tree_size (problem_of ws) ((problem_of ws).units - suc at.node.unit) ≡ n
-      → 2 * tree_size (problem_of ws) ((problem_of ws).units - next.node.unit) - 1 < n
+  pub taken_falls : (n : ℕ) → 2 * tree_size (problem file) ((problem file).units - suc at.node.unit) ≡ n
+      → 2 * tree_size (problem file) ((problem file).units - next.node.unit) - 1 < n
   taken_falls n en =
-      subst (λ (x : Node). 2 * tree_size (problem_of ws) ((problem_of ws).units - x.unit) - 1 < n) (sym goes.is)
-      (subst (λ (x : ℕ). 2 * tree_size (problem_of ws) ((problem_of ws).units - (at.node.unit + 1)) - 1 < x) en
-      (places_to_place (problem_of ws) at.node.unit))
+      subst (λ (x : Node). 2 * tree_size (problem file) ((problem file).units - x.unit) - 1 < n) (sym goes.is)
+      (subst (λ (x : ℕ). 2 * tree_size (problem file) ((problem file).units - (at.node.unit + 1)) - 1 < x) en
+      (places_to_place (problem file) at.node.unit))
 
   -- it was
-  pub taken_placed : (w₂ : List ℕ) (step : Step) → PlaceDone (problem_of ws) w w₂ next.node next.state step → TryDone (problem_of ws) w w₂ at step
+  pub taken_placed : (w₂ : List ℕ) (step : Step) → PlaceDone (problem file) w w₂ next.node next.state step → TryDone (problem file) w w₂ at step
   unfolding TryDone PlaceDone
   taken_placed w₂ step done =
-      done_place (problem_of ws) w w₂ at.node.starts at.node.unit at.state step
-      (subst₂ (λ (x : Node) (s : State). PlaceDone (problem_of ws) w w₂ x s step) goes.is taken.goes.state_is done)
+      done_place (problem file) w w₂ at.node.starts at.node.unit at.state step
+      (subst₂ (λ (x : Node) (s : State). PlaceDone (problem file) w w₂ x s step) goes.is taken.goes.state_is done)

@@ -4,15 +4,14 @@
 use Rattle.std.specs.Prelude.{ℕ, suc, ◌+◌, ◌-◌, ◌≤◌, ◌<◌, ◌≡◌, Bool, true, false, ◌||◌, List, ◌⊎◌, length, set, ltb, Option, Some, None, Result, Ok, Err}
 use Rattle.sums.specs.NumSet.{has, without}
 use Rattle.sums.specs.Table.{entry}
-use Rattle.model.specs.declared.Layout.{Layout}
 use Rattle.model.specs.Problem.{Problem}
 use Rattle.model.specs.Domain.{permitted}
 use Rattle.model.specs.Schedule.{Schedule, out_in, Sound, cost}
 use Rattle.model.specs.Order.{Same, Lower, Earlier}
 use Rattle.model.specs.Prefix.{tree_size, passed}
 use Rattle.model.specs.Nogood.{MOST_LIMIT, Nogood}
-use Rattle.model.specs.Words.{problem_of}
-use Rattle.instance.specs.Filed.{Filed}
+use Rattle.instance.specs.declared.file.File.{File}
+use Rattle.instance.specs.File.{problem}
 use Rattle.blame.specs.Closed.{Closed, Settled}
 use Rattle.blame.specs.Placed.{first_units, out_of, paid, plan_of}
 use Rattle.nogood.specs.Noting.{KEPT_FREE}
@@ -128,41 +127,40 @@ pub record Untried (p : Problem) (w us rows ys : List ℕ) (node : Node) (st : S
   pub held : TableTrue p w st.used
 
 -- what every function of the walk has: a file, the table with all its parts, and a memo that recalls at its prices
-pub record Walking (ws : List ℕ) (l : Layout) (us memo : List ℕ) : Type 0 where
-  pub filed : Filed ws l
-  pub dual : Dual (problem_of ws) us
-  pub recalls : MemoTrue (problem_of ws) (price_in us) memo
+pub record Walking (file : File) (us memo : List ℕ) : Type 0 where
+  pub dual : Dual (problem file) us
+  pub recalls : MemoTrue (problem file) (price_in us) memo
 
 -- what placing a unit asks
-pub record PlaceNeeds (ws : List ℕ) (l : Layout) (us rows ys : List ℕ) (at : Visit) (w memo : List ℕ) : Type 0 where
-  pub walking : Walking ws l us memo
-  pub open_at : Open (problem_of ws) w us rows ys at.node at.state
+pub record PlaceNeeds (file : File) (us rows ys : List ℕ) (at : Visit) (w memo : List ℕ) : Type 0 where
+  pub walking : Walking file us memo
+  pub open_at : Open (problem file) w us rows ys at.node at.state
 
 -- what trying a start asks
-pub record TryNeeds (ws : List ℕ) (l : Layout) (us rows ys : List ℕ) (at : Visit) (w memo : List ℕ) : Type 0 where
-  pub walking : Walking ws l us memo
-  pub untried : Untried (problem_of ws) w us rows ys at.node at.state
+pub record TryNeeds (file : File) (us rows ys : List ℕ) (at : Visit) (w memo : List ℕ) : Type 0 where
+  pub walking : Walking file us memo
+  pub untried : Untried (problem file) w us rows ys at.node at.state
 
 -- the same as one fact each: a search for a proof enters every record it meets, and leaves these alone
-unfoldable pub PlaceDue : (ws : List ℕ) → Layout → (us rows ys : List ℕ) → Visit → (w memo : List ℕ) → Type 0
-PlaceDue ws l us rows ys at w memo = PlaceNeeds ws l us rows ys at w memo
+unfoldable pub PlaceDue : (file : File) → (us rows ys : List ℕ) → Visit → (w memo : List ℕ) → Type 0
+PlaceDue file us rows ys at w memo = PlaceNeeds file us rows ys at w memo
 
-unfoldable pub TryDue : (ws : List ℕ) → Layout → (us rows ys : List ℕ) → Visit → (w memo : List ℕ) → Type 0
-TryDue ws l us rows ys at w memo = TryNeeds ws l us rows ys at w memo
+unfoldable pub TryDue : (file : File) → (us rows ys : List ℕ) → Visit → (w memo : List ℕ) → Type 0
+TryDue file us rows ys at w memo = TryNeeds file us rows ys at w memo
 
 -- what testing a start asks, in whatever order the units are placed: what its own tests ask, and a table that is true
-pub record TestNeeds (ws : List ℕ) (l : Layout) (us rows ys : List ℕ) (at : Visit) (w memo : List ℕ) : Type 0 where
-  pub tests : TestDue ws l us rows at.node at.state.limit.0 ys memo
-  pub held : TableTrue (problem_of ws) w at.state.used
+pub record TestNeeds (file : File) (us rows ys : List ℕ) (at : Visit) (w memo : List ℕ) : Type 0 where
+  pub tests : TestDue file us rows at.node at.state.limit.0 ys memo
+  pub held : TableTrue (problem file) w at.state.used
 
-unfoldable pub TestStartDue : (ws : List ℕ) → Layout → (us rows ys : List ℕ) → Visit → (w memo : List ℕ) → Type 0
-TestStartDue ws l us rows ys at w memo = TestNeeds ws l us rows ys at w memo
+unfoldable pub TestStartDue : (file : File) → (us rows ys : List ℕ) → Visit → (w memo : List ℕ) → Type 0
+TestStartDue file us rows ys at w memo = TestNeeds file us rows ys at w memo
 
 -- a start that was to be tried was judged; what it asked holds still
-pub record Judging (ws : List ℕ) (l : Layout) (us rows ys : List ℕ) (at : Visit) (w memo zs memo₁ : List ℕ) (v : Result Euro ℕ) : Type 0 where
-  pub due : TryNeeds ws l us rows ys at w memo
-  pub said : Judged (problem_of ws) us at.node at.state.limit.0 zs v
-  pub recalls : MemoTrue (problem_of ws) (price_in us) memo₁
+pub record Judging (file : File) (us rows ys : List ℕ) (at : Visit) (w memo zs memo₁ : List ℕ) (v : Result Euro ℕ) : Type 0 where
+  pub due : TryNeeds file us rows ys at w memo
+  pub said : Judged (problem file) us at.node at.state.limit.0 zs v
+  pub recalls : MemoTrue (problem file) (price_in us) memo₁
 
 -- where the walk goes on from a start that holds: its unit is placed, and the try is counted
 pub record Deeper (at : Visit) (bound : Euro) (next : Visit) : Type 0 where
@@ -170,15 +168,15 @@ pub record Deeper (at : Visit) (bound : Euro) (next : Visit) : Type 0 where
   pub state_is : next.state ≡ tried_once at.state
 
 -- a start was judged to hold, and the walk goes on
-pub record Taken (ws : List ℕ) (l : Layout) (us rows ys : List ℕ) (at : Visit) (w memo zs memo₁ : List ℕ) (next : Visit) : Type 0 where
+pub record Taken (file : File) (us rows ys : List ℕ) (at : Visit) (w memo zs memo₁ : List ℕ) (next : Visit) : Type 0 where
   pub bound : Euro
-  pub judging : Judging ws l us rows ys at w memo zs memo₁ (Ok bound)
+  pub judging : Judging file us rows ys at w memo zs memo₁ (Ok bound)
   pub goes : Deeper at bound next
 
 -- it was judged: it holds, or some units' starts are a dead end
-unfoldable pub TryTaken : (ws : List ℕ) → Layout → (us rows ys : List ℕ) → Visit → (w memo zs memo₁ : List ℕ) → Result Visit ℕ → Type 0
-TryTaken ws l us rows ys at w memo zs memo₁ (Ok next) = Taken ws l us rows ys at w memo zs memo₁ next
-TryTaken ws l us rows ys at w memo zs memo₁ (Err b) = Judging ws l us rows ys at w memo zs memo₁ (Err b)
+unfoldable pub TryTaken : (file : File) → (us rows ys : List ℕ) → Visit → (w memo zs memo₁ : List ℕ) → Result Visit ℕ → Type 0
+TryTaken file us rows ys at w memo zs memo₁ (Ok next) = Taken file us rows ys at w memo zs memo₁ next
+TryTaken file us rows ys at w memo zs memo₁ (Err b) = Judging file us rows ys at w memo zs memo₁ (Err b)
 
 -- the place of the first k starts is dead, by the starts of the units of b
 pub record DeadEnd (p : Problem) (xs : List ℕ) (k : ℕ) (st : State) (b : ℕ) : Type 0 where
@@ -242,22 +240,22 @@ pub record AllPlaced (p : Problem) (placed : ℕ) : Type 0 where
   pub within : (i : ℕ) → has placed i ≡ true → i < p.units
 
 -- all units stand, with the rows of all
-pub record LeafNeeds (ws : List ℕ) (l : Layout) (us rows ys : List ℕ) (at : Visit) (memo : List ℕ) : Type 0 where
-  pub walking : Walking ws l us memo
-  pub whole : AllPlaced (problem_of ws) at.node.placed
-  pub stands : Stands (problem_of ws) us (has at.node.placed) (entry at.node.starts) ys at.node.bound.0
-  pub tallied : Rows (problem_of ws) (out_of (problem_of ws) (has at.node.placed) (entry at.node.starts)) rows
+pub record LeafNeeds (file : File) (us rows ys : List ℕ) (at : Visit) (memo : List ℕ) : Type 0 where
+  pub walking : Walking file us memo
+  pub whole : AllPlaced (problem file) at.node.placed
+  pub stands : Stands (problem file) us (has at.node.placed) (entry at.node.starts) ys at.node.bound.0
+  pub tallied : Rows (problem file) (out_of (problem file) (has at.node.placed) (entry at.node.starts)) rows
   pub small : at.state.limit.0 ≤ MOST_LIMIT
 
-unfoldable pub LeafDue : (ws : List ℕ) → Layout → (us rows ys : List ℕ) → Visit → (memo : List ℕ) → Type 0
-LeafDue ws l us rows ys at memo = LeafNeeds ws l us rows ys at memo
+unfoldable pub LeafDue : (file : File) → (us rows ys : List ℕ) → Visit → (memo : List ℕ) → Type 0
+LeafDue file us rows ys at memo = LeafNeeds file us rows ys at memo
 
 -- it costs less than the limit
-pub record BetterDue (ws : List ℕ) (l : Layout) (us ys : List ℕ) (at : Visit) (c : ℕ) : Type 0 where
-  pub bounded : Bounded ws l us at.node ys
-  pub whole : AllPlaced (problem_of ws) at.node.placed
+pub record BetterDue (file : File) (us ys : List ℕ) (at : Visit) (c : ℕ) : Type 0 where
+  pub bounded : Bounded file us at.node ys
+  pub whole : AllPlaced (problem file) at.node.placed
   pub small : at.state.limit.0 ≤ MOST_LIMIT
-  pub costs : c ≡ paid (problem_of ws) (out_in (problem_of ws) (entry at.node.starts))
+  pub costs : c ≡ paid (problem file) (out_in (problem file) (entry at.node.starts))
   pub less : c < at.state.limit.0
 
 -- the schedule of these starts costs the limit or more, and the units of b are to blame
@@ -311,9 +309,9 @@ pub record AtRoot (bound : ℕ) (st : State) (at : Visit) : Type 0 where
   pub same : at.state ≡ st
 
 -- what a walk asks
-pub record WalkDue (ws : List ℕ) (l : Layout) (us : List ℕ) (st : State) (w memo : List ℕ) : Type 0 where
-  pub walking : Walking ws l us memo
-  pub fresh : Fresh (problem_of ws) w st
+pub record WalkDue (file : File) (us : List ℕ) (st : State) (w memo : List ℕ) : Type 0 where
+  pub walking : Walking file us memo
+  pub fresh : Fresh (problem file) w st
 
 -- a walk ended unspent
 abbrev pub Unspent : Walked → Type 0

@@ -3,16 +3,15 @@
 #![tactic(auto)]
 
 ghost use Rattle.std.specs.Prelude.{◌<◌, ◌≤◌};
-ghost use Rattle.model.specs.Words.{problem_of};
 ghost use Rattle.tables.specs.Tables.{price_in};
 ghost use Rattle.relaxation.specs.Relaxed.{MemoTrue};
 ghost use Rattle.state.specs.State.{MOST_TRIES};
 ghost use Rattle.bound.specs.Tests.{Judged};
 ghost use Rattle.walk.specs.Walk.{IsStart, PlaceDue, TryDue, TestStartDue, Deeper, TryTaken, PlaceDone, TryDone, Shares, TurnOf, LeafDue, BetterDue, Better, Leaf};
+ghost use Rattle.instance.specs.File.{problem};
 
 use dual::Node;
-use instance::Euro;
-use model::Layout;
+use instance::{Euro, File};
 use state::{State, Step, Walked};
 use tables::TABLES;
 
@@ -26,26 +25,17 @@ pub struct Visit {
 // ---- a start judged
 
 // Tests the start of a unit: noted nogoods, then rules and cost. It holds, and the lower bound with it is this; or these units' starts are a dead end.
-pub fn test_start(
-    words: &[u32],
-    l: Layout,
-    tables: &[u32; TABLES],
-    rows: &[u64; 52],
-    at: Visit,
-    table: &[u32],
-    values: &mut [u32],
-    memo: &mut [u32],
-) -> Result<Euro, u32>
-    requires { TestStartDue words.now l tables.now rows.now values.old at table.now memo.old }
-    ensures answer { Judged (problem_of words.now) tables.now at.node at.state.limit.0 values.new result }
-    ensures recalls { MemoTrue (problem_of words.now) (price_in tables.now) memo.new }
+pub fn test_start(file: &File, tables: &[u32; TABLES], rows: &[u64; 52], at: Visit, table: &[u32], values: &mut [u32], memo: &mut [u32]) -> Result<Euro, u32>
+    requires { TestStartDue file.now tables.now rows.now values.old at table.now memo.old }
+    ensures answer { Judged (problem file.now) tables.now at.node at.state.limit.0 values.new result }
+    ensures recalls { MemoTrue (problem file.now) (price_in tables.now) memo.new }
 {
     let node = at.node;
     let st = at.state;
     if let Some(b) = state::recalled(table, st, node.starts, node.placed, node.unit) {
         return Err(b);
     }
-    bound::test(words, l, tables, rows, node, st.limit, values, memo)
+    bound::test(file, tables, rows, node, st.limit, values, memo)
 }
 
 // Where the walk goes on from a start that holds: one unit more is placed at the bound with it, and the try is counted.
@@ -60,87 +50,54 @@ pub fn deeper(at: Visit, bound: Euro) -> Visit
 }
 
 // Judges the start of a unit, within the budget: where the walk goes on, or the units whose starts are a dead end.
-fn judge_start(
-    words: &[u32],
-    l: Layout,
-    tables: &[u32; TABLES],
-    rows: &[u64; 52],
-    at: Visit,
-    table: &[u32],
-    values: &mut [u32],
-    memo: &mut [u32],
-) -> Result<Visit, u32>
-    requires { TryDue words.now l tables.now rows.now values.old at table.now memo.old × (at.state.tries < MOST_TRIES) }
-    ensures { TryTaken words.now l tables.now rows.now values.old at table.now memo.old
+fn judge_start(file: &File, tables: &[u32; TABLES], rows: &[u64; 52], at: Visit, table: &[u32], values: &mut [u32], memo: &mut [u32]) -> Result<Visit, u32>
+    requires { TryDue file.now tables.now rows.now values.old at table.now memo.old × (at.state.tries < MOST_TRIES) }
+    ensures { TryTaken file.now tables.now rows.now values.old at table.now memo.old
         values.new memo.new result }
 {
-    let bound = test_start(words, l, tables, rows, at, table, values, memo)?;
+    let bound = test_start(file, tables, rows, at, table, values, memo)?;
     Ok(deeper(at, bound))
 }
 
 // ---- all units placed
 
 // A schedule of all units that costs less than the limit is the best so far; who is to blame that no other with their starts costs less.
-fn take_better(
-    words: &[u32],
-    l: Layout,
-    tables: &[u32; TABLES],
-    at: Visit,
-    cost: Euro,
-    values: &mut [u32],
-) -> Step
-    requires { BetterDue words.now l tables.now values.old at cost.0 }
-    ensures { Better (problem_of words.now) at.node.starts at.state result }
+fn take_better(file: &File, tables: &[u32; TABLES], at: Visit, cost: Euro, values: &mut [u32]) -> Step
+    requires { BetterDue file.now tables.now values.old at cost.0 }
+    ensures { Better (problem file.now) at.node.starts at.state result }
 {
     let node = at.node;
     let st = at.state;
     let starts = node.starts;
-    let b = dual::find_blame(words, l, tables, node, cost, values);
+    let b = dual::find_blame(file, tables, node, cost, values);
     state::dead_end(state::improved(st, starts, cost), b)
 }
 
 // Every unit has its start: what the schedule costs, and who is to blame that no other with their starts costs less.
-pub fn close_leaf(
-    words: &[u32],
-    l: Layout,
-    tables: &[u32; TABLES],
-    rows: &[u64; 52],
-    values: &[u32; 52],
-    at: Visit,
-    memo: &mut [u32],
-) -> Step
-    requires { LeafDue words.now l tables.now rows.now values.now at memo.old }
-    ensures answer { Leaf (problem_of words.now) at.node.starts at.state result }
-    ensures recalls { MemoTrue (problem_of words.now) (price_in tables.now) memo.new }
+pub fn close_leaf(file: &File, tables: &[u32; TABLES], rows: &[u64; 52], values: &[u32; 52], at: Visit, memo: &mut [u32]) -> Step
+    requires { LeafDue file.now tables.now rows.now values.now at memo.old }
+    ensures answer { Leaf (problem file.now) at.node.starts at.state result }
+    ensures recalls { MemoTrue (problem file.now) (price_in tables.now) memo.new }
 {
     let st = at.state;
     let starts = at.node.starts;
     let limit = st.limit;
-    let cost = bound::cost(words, l, rows, starts, memo);
+    let cost = bound::cost(file, rows, starts, memo);
     if limit.0 <= cost.0 {
         return state::dead_end(st, at.node.placed);
     }
     let mut next = *values;
-    take_better(words, l, tables, at, cost, &mut next)
+    take_better(file, tables, at, cost, &mut next)
 }
 
 // ---- a start tried, and the starts of a unit
 
 // Tries the start of the node's unit, and places the next unit where it holds (D60, D91).
 #[cycle(place_try_start)]
-fn try_start(
-    words: &[u32],
-    l: Layout,
-    tables: &[u32; TABLES],
-    rows: &[u64; 52],
-    values: &[u32; 52],
-    at: Visit,
-    table: &mut [u32],
-    memo: &mut [u32],
-) -> Step
-    requires { TryDue words.now l tables.now rows.now values.now at table.old memo.old }
-    ensures answer { TryDone (problem_of words.now) table.old table.new at result }
-    ensures recalls { MemoTrue (problem_of words.now) (price_in tables.now) memo.new }
+fn try_start(file: &File, tables: &[u32; TABLES], rows: &[u64; 52], values: &[u32; 52], at: Visit, table: &mut [u32], memo: &mut [u32]) -> Step
+    requires { TryDue file.now tables.now rows.now values.now at table.old memo.old }
+    ensures answer { TryDone (problem file.now) table.old table.new at result }
+    ensures recalls { MemoTrue (problem file.now) (price_in tables.now) memo.new }
 {
     let st = at.state;
     let node = at.node;
@@ -148,11 +105,11 @@ fn try_start(
         return state::stopped(st, node.starts, node.unit + 1);
     }
     let mut next = *values;
-    match judge_start(words, l, tables, rows, at, &table[..], &mut next, memo) {
+    match judge_start(file, tables, rows, at, &table[..], &mut next, memo) {
         Err(b) => state::dead_end(state::tried(st), b),
         Ok(below) => {
-            let out = bound::placed_rows(words, l, rows, node.starts, node.unit);
-            place(words, l, tables, &out, &next, below, table, memo)
+            let out = bound::placed_rows(file, rows, node.starts, node.unit);
+            place(file, tables, &out, &next, below, table, memo)
         }
     }
 }
@@ -192,31 +149,22 @@ pub fn turn_after(step: Step, blame: u32, j: usize) -> Option<u32>
 // Tries the starts of the node's unit in turn, or weighs the schedule where all units are placed. A dead end that the unit has no share in is handed
 // up at once: that is the jump back (D3, D60, D91, D92).
 #[cycle(place_try_start)]
-pub fn place(
-    words: &[u32],
-    l: Layout,
-    tables: &[u32; TABLES],
-    rows: &[u64; 52],
-    values: &[u32; 52],
-    at: Visit,
-    table: &mut [u32],
-    memo: &mut [u32],
-) -> Step
-    requires { PlaceDue words.now l tables.now rows.now values.now at table.old memo.old }
-    ensures answer { PlaceDone (problem_of words.now) table.old table.new at.node at.state result }
-    ensures recalls { MemoTrue (problem_of words.now) (price_in tables.now) memo.new }
+pub fn place(file: &File, tables: &[u32; TABLES], rows: &[u64; 52], values: &[u32; 52], at: Visit, table: &mut [u32], memo: &mut [u32]) -> Step
+    requires { PlaceDue file.now tables.now rows.now values.now at table.old memo.old }
+    ensures answer { PlaceDone (problem file.now) table.old table.new at.node at.state result }
+    ensures recalls { MemoTrue (problem file.now) (price_in tables.now) memo.new }
 {
     let node = at.node;
-    if l.units <= node.unit {
-        return close_leaf(words, l, tables, rows, values, at, memo);
+    if file.layout.units <= node.unit {
+        return close_leaf(file, tables, rows, values, at, memo);
     }
-    let range = overhaul::starts_of(words, l, node.unit);
+    let range = overhaul::starts_of(file, node.unit);
     let mut s = at.state;
     let mut blame = 0;
     // Each time round, no schedule with the starts of the units to blame and a start of this unit below v is left below the limit.
     for v in range.first..range.last + 1 {
         let next = with_start(node, v, s);
-        let step = try_start(words, l, tables, rows, values, next, table, memo);
+        let step = try_start(file, tables, rows, values, next, table, memo);
         let Some(shared) = turn_after(step, blame, node.unit) else {
             return step;
         };

@@ -6,7 +6,7 @@ pub loop-j-init : goal.loop-j-init
 loop-j-init c = (search rules, search placed_none)
 
 pub placed_rows-next-requires : goal.placed_rows-next-requires
-placed_rows-next-requires c = (search rules, search placed_due)
+placed_rows-next-requires c = search placed_due
 
 pub loop-j-preserved : goal.loop-j-preserved
 loop-j-preserved c = (search rules, search placed_next)

@@ -2,13 +2,13 @@
 -- Assumes nothing.
 use Rattle.std.proofs.Common.{◌-◌, ◌≤◌}
 use Rattle.sums.specs.Table.{entry}
-use Rattle.model.specs.Words.{problem_of}
+use Rattle.instance.specs.File.{problem}
 use Rattle.blame.specs.Placed.{first_units, out_of}
 use Rattle.bound.specs.Rows.{Rows}
 use Rattle.bound.proofs.all_rows.Given as goal
 
 abbrev pub invariant-loop-j : goal.invariant-loop-j
-invariant-loop-j l = (l.j ≤ l.units) × Rows (problem_of l.words) (out_of (problem_of l.words) (first_units l.j) (entry l.starts)) l.rows
+invariant-loop-j l = (l.j ≤ l.units) × Rows (problem l.file) (out_of (problem l.file) (first_units l.j) (entry l.starts)) l.rows
 
 abbrev pub decreases-loop-j : goal.decreases-loop-j
 decreases-loop-j l = l.units - l.j

@@ -8,7 +8,7 @@ pub loop-t-init : goal.loop-t-init
 loop-t-init c = (search rules, search rules, refl, search rules, search others_same, search rules, search sum_start)
 
 pub tally_cost-requires : goal.tally_cost-requires
-tally_cost-requires c = (search rules, search rules, search row_tallies, search rules)
+tally_cost-requires c = (search rules, search row_tallies, search rules)
 
 pub loop-t-preserved : goal.loop-t-preserved
 loop-t-preserved c = (search rules, search rules, search rules, search rules, search others_trans, search rules, search paid_more)

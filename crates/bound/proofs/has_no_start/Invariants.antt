@@ -2,12 +2,12 @@
 -- Assumes nothing.
 use Rattle.std.proofs.Common.{◌-◌, ◌≤◌, ◌≡◌, false}
 use Rattle.sums.specs.Range.{some_to}
-use Rattle.model.specs.Words.{problem_of}
+use Rattle.instance.specs.File.{problem}
 use Rattle.bound.specs.Tests.{no_start}
 use Rattle.bound.proofs.has_no_start.Given as goal
 
 abbrev pub invariant-loop-i : goal.invariant-loop-i
-invariant-loop-i l = (l.i ≤ l.units) × (some_to l.i (no_start (problem_of l.words)) ≡ false)
+invariant-loop-i l = (l.i ≤ l.units) × (some_to l.i (no_start (problem l.file)) ≡ false)
 
 abbrev pub decreases-loop-i : goal.decreases-loop-i
 decreases-loop-i l = l.units - l.i

@@ -15,7 +15,7 @@ pub loop-k-init : goal.loop-k-init
 loop-k-init c = (search rules, search due_ends, search rows_start)
 
 pub word_with-requires : goal.word_with-requires
-word_with-requires c = (search rules, search rules, search due_unit, search due_tally)
+word_with-requires c = (search rules, search due_unit, search due_tally)
 
 pub loop-k-preserved : goal.loop-k-preserved
 loop-k-preserved c = (search rules, search rules, search rows_next)

@@ -8,8 +8,8 @@ loop-t-init c = (search rules, search rules, search root_start)
 pub returns-then-value-ge-NO_RUN : goal.returns-then-value-ge-NO_RUN
 returns-then-value-ge-NO_RUN c = search root_shut
 
-pub plus-sum-requires : goal.plus-sum-requires
-plus-sum-requires c = search root_fits
+pub add_assign-requires : goal.add_assign-requires
+add_assign-requires c = search root_fits
 
 pub loop-t-preserved : goal.loop-t-preserved
 loop-t-preserved c = (search rules, search rules, search root_next)

@@ -4,8 +4,8 @@ use Rattle.std.proofs.Common.{rules}
 use Rattle.bound.proofs.LeafLaws.{week_paid_lem, paid_fits, paid_most}
 use Rattle.bound.proofs.tally_cost.Goals as goal
 
-pub plus-requires : goal.plus-requires
-plus-requires c = search paid_fits
+pub add-requires : goal.add-requires
+add-requires c = search paid_fits
 
 pub returns : goal.returns
 returns c = record { answer = (search week_paid_lem, search paid_most); right = search rules }

@@ -7,8 +7,8 @@ use Rattle.commitment.proofs.least_score.Goals as goal
 pub returns-then-least-ge-UNCOVERED : goal.returns-then-least-ge-UNCOVERED
 returns-then-least-ge-UNCOVERED c = search score_none
 
-pub returns-then-l : goal.returns-then-l
-returns-then-l c = search score_plain
+pub returns-then-file : goal.returns-then-file
+returns-then-file c = search score_plain
 
 pub score-requires : goal.score-requires
 score-requires c = (search rules, search thrifty_fits)

@@ -3,8 +3,8 @@ use Rattle.sums.proofs.LoopLaws.{gathered_start, gathered_next}
 use Rattle.commitment.proofs.ThriftyLaws.{thrifty_none, thrifty_ended}
 use Rattle.commitment.proofs.thrifty_run.Goals as goal
 
-pub returns-then-l : goal.returns-then-l
-returns-then-l c = search thrifty_none
+pub returns-then-file : goal.returns-then-file
+returns-then-file c = search thrifty_none
 
 pub loop-i-init : goal.loop-i-init
 loop-i-init c = (search rules, search rules, search gathered_start)

@@ -7,8 +7,8 @@ use Rattle.cover.proofs.guess_output.Goals as goal
 pub loop-i-init : goal.loop-i-init
 loop-i-init c = (search rules, search sum_start)
 
-pub plus-sum-requires : goal.plus-sum-requires
-plus-sum-requires c = search caps_below
+pub add_assign-requires : goal.add_assign-requires
+add_assign-requires c = search caps_below
 
 pub loop-i-preserved : goal.loop-i-preserved
 loop-i-preserved c = (search rules, search sum_next)

@@ -4,8 +4,8 @@ use Rattle.std.proofs.Common.{rules}
 use Rattle.cover.proofs.TableLaws.{room_fits, gain_fits, cuts_next}
 use Rattle.cover.proofs.put_unit.Goals as goal
 
-pub plus-room-requires : goal.plus-room-requires
-plus-room-requires c = search room_fits
+pub add-room-requires : goal.add-room-requires
+add-room-requires c = search room_fits
 
 pub overflow_add-gain-2 : goal.overflow_add-gain-2
 overflow_add-gain-2 c = search (rules, gain_fits)

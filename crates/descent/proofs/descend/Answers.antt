@@ -10,7 +10,7 @@ root-v-requires c = search descent_root
 -- by name: what was asked stands behind more records than a search enters
 pub lower-requires : goal.lower-requires
 lower-requires c =
-    descent_begins _ _ _ _ _ _ c.requires _ c.plus-limit.ensures _ c.limited-s.ensures _ _ _ _ _ c.root-v.ensures c.in-Ok.is
+    descent_begins _ _ _ _ _ c.requires _ c.add-limit.ensures _ c.limited-s.ensures _ _ _ _ _ c.root-v.ensures c.in-Ok.is
     c.no_rows-rows.ensures c.first_values-values.ensures c.root_visit-at.ensures
 
 pub returns-in-Err : goal.returns-in-Err
@@ -19,6 +19,6 @@ returns-in-Err c = record { answer = search descent_out; recalls = search rules 
 -- by name: what was asked stands behind more records than a search enters
 pub returns-in-Ok : goal.returns-in-Ok
 returns-in-Ok c = record {
-  answer = descent_ends _ _ _ _ _ _ c.requires _ c.plus-limit.ensures _ c.limited-s.ensures _ _ _ _ c.root_visit-at.ensures c.lower.ensures.answer;
+  answer = descent_ends _ _ _ _ _ c.requires _ c.add-limit.ensures _ c.limited-s.ensures _ _ _ _ c.root_visit-at.ensures c.lower.ensures.answer;
   recalls = c.lower.ensures.recalls;
 }

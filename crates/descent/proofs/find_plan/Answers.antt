@@ -15,6 +15,6 @@ place-step-requires c = search held_places
 -- by name: what was asked stands behind more records than a search enters
 pub returns : goal.returns
 returns c = record {
-  answer = found_told _ _ _ _ _ _ _ _ c.requires _ _ _ _ c.place-step.ensures.answer c.tell.ensures c.place-step.ensures.recalls;
+  answer = found_told _ _ _ _ _ _ _ c.requires _ _ _ _ c.place-step.ensures.answer c.tell.ensures c.place-step.ensures.recalls;
   recalls = c.place-step.ensures.recalls;
 }

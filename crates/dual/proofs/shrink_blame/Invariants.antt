@@ -6,7 +6,7 @@ use Rattle.dual.proofs.BlameLaws.{Thinning}
 use Rattle.dual.proofs.shrink_blame.Given as goal
 
 abbrev pub invariant-loop-i : goal.invariant-loop-i
-invariant-loop-i l = (length l.values ≡ length l.initial.values) × Thinning l.words l.l l.tables (has l.initial.kept.units) l.starts l.wanted.0 l.i l.kept l.values
+invariant-loop-i l = (length l.values ≡ length l.initial.values) × Thinning l.file l.tables (has l.initial.kept.units) l.starts l.wanted.0 l.i l.kept l.values
 
 abbrev pub decreases-loop-i : goal.decreases-loop-i
 decreases-loop-i l = l.i

@@ -6,7 +6,7 @@ use Rattle.tables.specs.Tables.{MOST_WEEK_PRICES, price_in}
 use Rattle.farkas.proofs.all_prices.Given as goal
 
 abbrev pub invariant-loop-t : goal.invariant-loop-t
-invariant-loop-t l = (l.t ≤ l.weeks) × (l.sum.0 ≤ MOST_WEEK_PRICES * l.t) × (l.sum.0 ≡ sum_to l.t (row_sum l.l.units (price_in l.tables)))
+invariant-loop-t l = (l.t ≤ l.weeks) × (l.sum.0 ≤ MOST_WEEK_PRICES * l.t) × (l.sum.0 ≡ sum_to l.t (row_sum l.file.layout.units (price_in l.tables)))
 
 abbrev pub decreases-loop-t : goal.decreases-loop-t
 decreases-loop-t l = l.weeks - l.t

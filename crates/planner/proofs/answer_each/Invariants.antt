@@ -5,7 +5,7 @@ use Rattle.planner.specs.Due.{RunDue}
 use Rattle.planner.proofs.answer_each.Given as goal
 
 abbrev pub invariant-loop-k : goal.invariant-loop-k
-invariant-loop-k l = (l.k ≤ l.n) × (l.n ≡ length l.asks / 2) × RunDue l.words l.l l.tables l.asks l.initial.answers l.initial.table l.answers l.table l.carry l.free.shown l.k l.scratch
+invariant-loop-k l = (l.k ≤ l.n) × (l.n ≡ length l.asks / 2) × RunDue l.file l.tables l.asks l.initial.answers l.initial.table l.answers l.table l.carry l.free.shown l.k l.scratch
     × (length l.table ≡ length l.initial.table) × (length l.answers ≡ length l.initial.answers) × (length l.scratch ≡ length l.initial.scratch)
 
 abbrev pub decreases-loop-k : goal.decreases-loop-k

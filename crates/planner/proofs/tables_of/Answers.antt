@@ -5,10 +5,10 @@ use Rattle.planner.proofs.DueLaws.{bare_priced, bare_recalls, emptied_right, emp
 use Rattle.planner.proofs.tables_of.Goals as goal
 
 pub fill_tables-requires : goal.fill_tables-requires
-fill_tables-requires c = (search rules, search bare_priced, search bare_recalls)
+fill_tables-requires c = (search bare_priced, search bare_recalls)
 
 pub find_prices-priced-requires : goal.find_prices-priced-requires
-find_prices-priced-requires c = (search rules, search rules, search emptied_right)
+find_prices-priced-requires c = (search rules, search emptied_right)
 
 pub fill_tables-requires-2 : goal.fill_tables-requires-2
-fill_tables-requires-2 c = (search rules, search rules, search emptied_recalls)
+fill_tables-requires-2 c = (search rules, search emptied_recalls)

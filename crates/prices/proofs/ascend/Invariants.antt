@@ -1,19 +1,19 @@
 -- `prices::ascend` meets its contract: tables and pushes stay in range, and the memo right, from round to round.
 -- Assumes nothing.
 use Rattle.std.proofs.Common.{length, ◌≡◌}
+use Rattle.instance.specs.File.{problem}
 use Rattle.prices.specs.Ranges.{MOST_PUSH, PricedFile, ProgressInRange}
 use Rattle.memo.specs.Memo.{Right, Others}
-use Rattle.model.specs.Words.{problem_of}
 use Rattle.sums.specs.Table.{AtMost}
 use Rattle.prices.proofs.ascend.Given as goal
 
 abbrev pub invariant-loop : goal.invariant-loop
 invariant-loop l = record {
   progress : ProgressInRange l.s;
-  tables : PricedFile l.words l.l l.tables;
+  tables : PricedFile l.file l.tables;
   push : AtMost MOST_PUSH l.push;
-  best : PricedFile l.words l.l l.best;
-  right : Right (problem_of l.words) l.memo;
+  best : PricedFile l.file l.best;
+  right : Right (problem l.file) l.memo;
   others : Others l.initial.memo l.memo;
   long : length l.memo ≡ length l.initial.memo;
 }

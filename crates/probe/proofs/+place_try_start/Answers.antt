@@ -7,16 +7,16 @@ use Rattle.probe.proofs.TryLaws.{taken_filed, taken_dead_recalls, taken_rows, ta
 use Rattle.probe.proofs.+place_try_start.Goals as goal
 
 pub place-next_unit-unit-requires : goal.place-next_unit-unit-requires
-place-next_unit-unit-requires t c = (search place_filed, search place_small)
+place-next_unit-unit-requires t c = search place_small
 
 pub place-weigh-requires : goal.place-weigh-requires
 place-weigh-requires t c = search place_leaf
 
-pub place-returns-then-l-unit : goal.place-returns-then-l-unit
-place-returns-then-l-unit t c = record { answer = search place_weighed; recalls = search rules }
+pub place-returns-then-file-unit : goal.place-returns-then-file-unit
+place-returns-then-file-unit t c = record { answer = search place_weighed; recalls = search rules }
 
 pub place-starts_of-range-requires : goal.place-starts_of-range-requires
-place-starts_of-range-requires t c = record { filed = search place_filed; i_lt_units = search rules }
+place-starts_of-range-requires t c = search rules
 
 pub place-overflow_add-v-end : goal.place-overflow_add-v-end
 place-overflow_add-v-end t c = search place_fits
@@ -37,13 +37,13 @@ place-turn_after-requires t c = search starts_small
 pub place-returns-in_default-clause-answer : goal.place-returns-in_default-clause-answer
 place-returns-in_default-clause-answer t c =
     let tried = c.try_start-step.ensures in
-    starts_left _ _ _ _ _ _ _ _ _ _ _ _ _ _ _ _ _ _ c.loop-v.invariant.0 c.with_start-next.ensures tried.answer c.turn_after.ensures
+    starts_left _ _ _ _ _ _ _ _ _ _ _ _ _ _ _ _ _ c.loop-v.invariant.0 c.with_start-next.ensures tried.answer c.turn_after.ensures
     (search rules) (search rules)
 
 pub place-loop-v-preserved : goal.place-loop-v-preserved
 place-loop-v-preserved t c =
     let tried = c.try_start-step.ensures in (
-      starts_next _ _ _ _ _ _ _ _ _ _ _ _ _ _ _ _ _ _ _ _ c.loop-v.invariant.0 c.with_start-next.ensures tried.answer c.turn_after.ensures
+      starts_next _ _ _ _ _ _ _ _ _ _ _ _ _ _ _ _ _ _ _ c.loop-v.invariant.0 c.with_start-next.ensures tried.answer c.turn_after.ensures
           tried.recalls (search rules) (search rules),
       place_long _ _ _ _ _ tried.answer ∙ c.loop-v.invariant.1,
       search rules,
@@ -62,13 +62,13 @@ pub try_start-slice_bounds-judge_start-end : goal.try_start-slice_bounds-judge_s
 try_start-slice_bounds-judge_start-end t c = search try_long
 
 pub try_start-placed_rows-out-requires : goal.try_start-placed_rows-out-requires
-try_start-placed_rows-out-requires t c = (search taken_filed, search taken_rows)
+try_start-placed_rows-out-requires t c = search taken_rows
 
 pub try_start-place-requires : goal.try_start-place-requires
 try_start-place-requires t c =
     let taken = c.judge_start.ensures in
     let holds = c.in-Ok.is in
-    (taken_falls _ _ _ _ _ _ _ _ _ _ _ taken _ holds _ (omega arith), taken_places _ _ _ _ _ _ _ _ _ _ _ taken _ holds _ (search rules))
+    (taken_falls _ _ _ _ _ _ _ _ _ _ taken _ holds _ (omega arith), taken_places _ _ _ _ _ _ _ _ _ _ taken _ holds _ (search rules))
 
 pub try_start-returns-in-Err : goal.try_start-returns-in-Err
 try_start-returns-in-Err t c = record { answer = search taken_fails; recalls = search taken_dead_recalls }

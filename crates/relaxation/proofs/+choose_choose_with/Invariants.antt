@@ -3,7 +3,7 @@
 -- Assumes nothing.
 use Rattle.std.proofs.Common.{◌+◌, ◌-◌, ◌*◌, ◌≤◌, ◌≡◌, length}
 use Rattle.sums.specs.NumSet.{has}
-use Rattle.model.specs.Words.{problem_of}
+use Rattle.instance.specs.File.{problem}
 use Rattle.memo.specs.Memo.{Right, Others}
 use Rattle.tables.specs.Tables.{price_in}
 use Rattle.relaxation.specs.Choosing.{Floor}
@@ -14,8 +14,8 @@ decreases-choose l = 2 * l.k + 1
 
 abbrev pub invariant-choose-loop-i : goal.invariant-choose-loop-i
 invariant-choose-loop-i l =
-    (l.i ≤ l.k) × (l.low.value.0 ≤ l.initial.low.value.0) × Floor (problem_of l.words) (price_in l.tables) l.y.week (has l.y.out) l.i l.low.value.0
-    × Right (problem_of l.words) l.memo × Others l.initial.memo l.memo × (length l.memo ≡ length l.initial.memo)
+    (l.i ≤ l.k) × (l.low.value.0 ≤ l.initial.low.value.0) × Floor (problem l.file) (price_in l.tables) l.y.week (has l.y.out) l.i l.low.value.0
+    × Right (problem l.file) l.memo × Others l.initial.memo l.memo × (length l.memo ≡ length l.initial.memo)
 
 abbrev pub decreases-choose-loop-i : goal.decreases-choose-loop-i
 decreases-choose-loop-i l = l.k - l.i

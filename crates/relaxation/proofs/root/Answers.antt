@@ -3,8 +3,8 @@
 use Rattle.relaxation.proofs.NodeLaws.{beginning_small, begun_of}
 use Rattle.relaxation.proofs.root.Goals as goal
 
-pub plus-requires : goal.plus-requires
-plus-requires c = search beginning_small
+pub add-requires : goal.add-requires
+add-requires c = search beginning_small
 
 pub returns : goal.returns
 returns c = search begun_of

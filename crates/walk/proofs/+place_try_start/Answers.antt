@@ -9,11 +9,11 @@ use Rattle.walk.proofs.+place_try_start.Goals as goal
 pub place-close_leaf-requires : goal.place-close_leaf-requires
 place-close_leaf-requires t c = search place_leaf
 
-pub place-returns-then-l-node : goal.place-returns-then-l-node
-place-returns-then-l-node t c = record { answer = search place_weighed; recalls = search rules }
+pub place-returns-then-file-node : goal.place-returns-then-file-node
+place-returns-then-file-node t c = record { answer = search place_weighed; recalls = search rules }
 
 pub place-starts_of-range-requires : goal.place-starts_of-range-requires
-place-starts_of-range-requires t c = record { filed = search place_filed; i_lt_units = search rules }
+place-starts_of-range-requires t c = search rules
 
 pub place-overflow_add-v-end : goal.place-overflow_add-v-end
 place-overflow_add-v-end t c = search place_fits
@@ -54,14 +54,14 @@ pub try_start-slice_bounds-judge_start-end : goal.try_start-slice_bounds-judge_s
 try_start-slice_bounds-judge_start-end t c = search try_long
 
 pub try_start-placed_rows-out-requires : goal.try_start-placed_rows-out-requires
-try_start-placed_rows-out-requires t c = (search taken_filed, search taken_rows)
+try_start-placed_rows-out-requires t c = search taken_rows
 
 -- the same, from `judge_start` on; omega reads the measure at entry from the record of that call
 pub try_start-place-requires : goal.try_start-place-requires
 try_start-place-requires t c =
     let taken = c.judge_start.ensures in
     let holds = c.in-Ok.is in
-    (taken_falls _ _ _ _ _ _ _ _ _ _ _ taken _ holds _ (omega arith), taken_places _ _ _ _ _ _ _ _ _ _ _ taken _ holds _ (search rules))
+    (taken_falls _ _ _ _ _ _ _ _ _ _ taken _ holds _ (omega arith), taken_places _ _ _ _ _ _ _ _ _ _ taken _ holds _ (search rules))
 
 pub try_start-returns-in-Err : goal.try_start-returns-in-Err
 try_start-returns-in-Err t c = record { answer = search taken_fails; recalls = search taken_dead_recalls }

@@ -4,7 +4,7 @@ use Rattle.walk.proofs.JudgedLaws.{leaf_filed, leaf_right, leaf_long, leaf_rows,
 use Rattle.walk.proofs.close_leaf.Goals as goal
 
 pub cost-cost-requires : goal.cost-cost-requires
-cost-cost-requires c = (search leaf_filed, search leaf_rows, search leaf_right)
+cost-cost-requires c = (search leaf_rows, search leaf_right)
 
 pub returns-then-limit-cost : goal.returns-then-limit-cost
 returns-then-limit-cost c = record { answer = search leaf_dear; recalls = search leaf_recalls }

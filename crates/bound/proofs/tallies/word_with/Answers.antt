@@ -5,7 +5,7 @@ use Rattle.bound.proofs.RowLaws.{tally_read, packs_joined, word_tallies, word_jo
 use Rattle.bound.proofs.tallies.word_with.Goals as goal
 
 pub with_unit-requires : goal.with_unit-requires
-with_unit-requires c = record { filed = search rules; t_lt_weeks = search rules; tallies = search tally_read }
+with_unit-requires c = record { t_lt_weeks = search rules; tallies = search tally_read }
 
 pub packed-requires : goal.packed-requires
 packed-requires c = search (rules, packs_joined)

@@ -11,7 +11,7 @@ pub overflow_sub-first : goal.overflow_sub-first
 overflow_sub-first c = search permitted_some
 
 pub duration-weeks-requires : goal.duration-weeks-requires
-duration-weeks-requires c = record { filed = search rules; i_lt_units = search permitted_unit }
+duration-weeks-requires c = search permitted_unit
 
 pub overflow_add-result : goal.overflow_add-result
 overflow_add-result c = search weeks_fit

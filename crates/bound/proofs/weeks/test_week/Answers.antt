@@ -9,7 +9,7 @@ pub returns-then-both-ne0 : goal.returns-then-both-ne0
 returns-then-both-ne0 c = record { answer = search pair_shuts; recalls = search rules }
 
 pub with_unit-requires : goal.with_unit-requires
-with_unit-requires c = record { filed = search rules; t_lt_weeks = (search rules, search rules); tallies = search tally_read }
+with_unit-requires c = record { t_lt_weeks = (search rules, search rules); tallies = search tally_read }
 
 pub returns : goal.returns
 returns c = record { answer = search week_tested; recalls = search rules }

@@ -3,7 +3,7 @@ use Rattle.bound.proofs.TestLaws.{due_permitted, tested_start, weeks_rise, weeks
 use Rattle.bound.proofs.weeks.test_weeks.Goals as goal
 
 pub overhaul_weeks-weeks-requires : goal.overhaul_weeks-weeks-requires
-overhaul_weeks-weeks-requires c = (search rules, search due_permitted)
+overhaul_weeks-weeks-requires c = search due_permitted
 
 pub loop-t-init : goal.loop-t-init
 loop-t-init c = (search rules, search weeks_rise, search weeks_few, search tested_start, search rules, refl, refl)

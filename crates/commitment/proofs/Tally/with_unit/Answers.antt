@@ -10,8 +10,8 @@ returns-then-has c = (search rules, search joined_same)
 pub overflow_add-result : goal.overflow_add-result
 overflow_add-result c = search (rules, count_fits)
 
-pub plus-requires : goal.plus-requires
-plus-requires c = search cost_fits
+pub add-requires : goal.add-requires
+add-requires c = search cost_fits
 
 pub returns : goal.returns
 returns c = (record { many = search count_next; sum = search cost_next }, search rules)

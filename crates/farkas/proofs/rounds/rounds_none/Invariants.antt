@@ -6,7 +6,7 @@ use Rattle.prices.specs.Ranges.{MOST_PUSH, PricedFile}
 use Rattle.farkas.proofs.rounds.rounds_none.Given as goal
 
 abbrev pub invariant-loop-n : goal.invariant-loop-n
-invariant-loop-n l = (l.n ≤ l.most) × PricedFile l.words l.l l.next × AtMost MOST_PUSH l.push
+invariant-loop-n l = (l.n ≤ l.most) × PricedFile l.file l.next × AtMost MOST_PUSH l.push
 
 abbrev pub decreases-loop-n : goal.decreases-loop-n
 decreases-loop-n l = l.most - l.n

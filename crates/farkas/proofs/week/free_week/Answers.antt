@@ -6,7 +6,7 @@ use Rattle.farkas.proofs.NodeLaws.{root_due, week_free, week_most}
 use Rattle.farkas.proofs.week.free_week.Goals as goal
 
 pub root_node-root-requires : goal.root_node-root-requires
-root_node-root-requires c = (search rules, search rules, search sums_few)
+root_node-root-requires c = (search rules, search sums_few)
 
 pub walk-requires : goal.walk-requires
 walk-requires c = search root_due

@@ -2,12 +2,12 @@
 -- Assumes nothing.
 use Rattle.std.proofs.Common.{◌-◌, ◌≤◌}
 use Rattle.sums.specs.NumSet.{has}
-use Rattle.model.specs.Words.{problem_of}
+use Rattle.instance.specs.File.{problem}
 use Rattle.farkas.specs.Choices.{NeverTo}
 use Rattle.farkas.proofs.week.never_out.Given as goal
 
 abbrev pub invariant-loop-i : goal.invariant-loop-i
-invariant-loop-i l = (l.i ≤ l.units) × NeverTo (problem_of l.words) l.t l.i (has l.never)
+invariant-loop-i l = (l.i ≤ l.units) × NeverTo (problem l.file) l.t l.i (has l.never)
 
 abbrev pub decreases-loop-i : goal.decreases-loop-i
 decreases-loop-i l = l.units - l.i

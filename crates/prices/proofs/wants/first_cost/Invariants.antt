@@ -6,7 +6,7 @@ use Rattle.prices.proofs.wants.first_cost.Given as goal
 
 abbrev pub invariant-loop-k : goal.invariant-loop-k
 invariant-loop-k l =
-    (l.k ≤ l.duration) × (l.first + l.duration ≤ l.l.weeks) × (l.l.weeks ≤ 52) × (l.sum.0 ≤ AMOUNTS + (250000 + MOST_PRICE) * l.k)
+    (l.k ≤ l.duration) × (l.first + l.duration ≤ l.file.layout.weeks) × (l.file.layout.weeks ≤ 52) × (l.sum.0 ≤ AMOUNTS + (250000 + MOST_PRICE) * l.k)
 
 abbrev pub decreases-loop-k : goal.decreases-loop-k
 decreases-loop-k l = l.duration - l.k

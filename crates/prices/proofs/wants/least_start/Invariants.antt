@@ -7,5 +7,5 @@ use Rattle.prices.proofs.wants.least_start.Given as goal
 
 abbrev pub invariant-loop-s : goal.invariant-loop-s
 invariant-loop-s l =
-    (l.last + l.duration ≤ l.l.weeks + 1) × (1 ≤ l.s) × (l.l.weeks ≤ 52) × (l.cost.0 ≤ MOST_FIRST_COST + (500000 + MOST_PRICE) * l.s)
+    (l.last + l.duration ≤ l.file.layout.weeks + 1) × (1 ≤ l.s) × (l.file.layout.weeks ≤ 52) × (l.cost.0 ≤ MOST_FIRST_COST + (500000 + MOST_PRICE) * l.s)
     × (l.least.cost.0 ≤ MOST_UNIT_COST) × (l.least.start ≤ 52)

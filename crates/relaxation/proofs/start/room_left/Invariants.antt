@@ -3,11 +3,11 @@
 use Rattle.std.proofs.Common.{◌+◌, ◌-◌, ◌≤◌}
 use Rattle.sums.specs.Sum.{sum_to, counts_one}
 use Rattle.sums.specs.NumSet.{only_in, has}
-use Rattle.model.specs.Words.{problem_of}
+use Rattle.instance.specs.File.{problem}
 use Rattle.relaxation.proofs.start.room_left.Given as goal
 
 abbrev pub invariant-loop-i : goal.invariant-loop-i
-invariant-loop-i l = (l.i ≤ l.units) × ((problem_of l.words).crews ≤ sum_to l.i (only_in (has l.out) counts_one) + l.room)
+invariant-loop-i l = (l.i ≤ l.units) × ((problem l.file).crews ≤ sum_to l.i (only_in (has l.out) counts_one) + l.room)
 
 abbrev pub decreases-loop-i : goal.decreases-loop-i
 decreases-loop-i l = l.units - l.i

@@ -18,4 +18,7 @@ pub returns-after-apart : goal.returns-after-apart
 returns-after-apart c = search pairs_ended
 
 pub returns-then-not-pair_apart : goal.returns-then-not-pair_apart
-returns-then-not-pair_apart c = let breach : not c.pair_apart.result ≡ true = ap not c.if-not-pair_apart.true in search pair_breaks fits 20000
+returns-then-not-pair_apart c =
+    let breach : not c.pair_apart.result ≡ true = ap not c.if-not-pair_apart.true in
+    pair_breaks _ _ _ c.apart.n _ _ _ c.pairs-pairs.result _ c.args.grid.now.file.filed.weeks_are c.span_for-span.ensures.end c.loop-t-test.true (search rules) (search rules)
+    breach c.pair_apart.ensures

@@ -16,6 +16,6 @@ last_walk-requires c = search plan_walks
 -- by name: what was asked stands behind more records than a search enters
 pub returns : goal.returns
 returns c = record {
-  answer = plan_walked _ _ _ _ _ _ _ c.requires _ _ c.descend-r.ensures.answer _ _ c.last_walk.ensures.answer;
+  answer = plan_walked _ _ _ _ _ _ c.requires _ _ c.descend-r.ensures.answer _ _ c.last_walk.ensures.answer;
   recalls = c.last_walk.ensures.recalls;
 }

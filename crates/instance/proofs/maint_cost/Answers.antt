@@ -1,7 +1,0 @@
--- `instance::maint_cost` meets its contract: the word at the cell of the maintenance costs is read.
--- Assumes nothing.
-use Rattle.instance.proofs.FigureLaws.{maint_at, maint_most}
-use Rattle.instance.proofs.maint_cost.Goals as goal
-
-pub returns : goal.returns
-returns c = (search maint_at, search maint_most)

@@ -1,7 +1,0 @@
--- `rules::state` meets its contract: the place is the cell's.
--- Assumes nothing.
-use Rattle.rules.proofs.CellLaws.{cell_read}
-use Rattle.rules.proofs.state.Goals as goal
-
-pub returns : goal.returns
-returns c = search cell_read
