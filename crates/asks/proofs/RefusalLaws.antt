@@ -14,13 +14,13 @@ use mir.Val.{Fits}
 use borrow.Author.Tests.{leb-true, le-leb, lt-leb, eqb-true, eq-eqb, ne_eqb}
 use Rattle.sums.specs.Logic.{if}
 use Rattle.sums.proofs.LogicLaws.{and_last_false}
-use Rattle.model.specs.declared.Layout.{Layout}
-use Rattle.model.specs.Words.{kind_of, value_of, kind_at, value_at, problem_of}
+use Rattle.model.specs.Words.{kind_of, value_of, kind_at, value_at}
 use Rattle.model.specs.Verdict.{Verdict, accepted, refused, first_fault}
 use Rattle.model.specs.Refusal.{ask_fault, asks_verdict, block_size, memory_verdict}
 use Rattle.model.specs.Asks.{ceiling_at, budget_at}
 use Rattle.model.proofs.ReadingLaws.{refused_not}
-use Rattle.instance.specs.Filed.{Filed}
+use Rattle.instance.specs.declared.file.File.{File}
+use Rattle.instance.specs.File.{problem}
 use Rattle.shape.specs.Shape as shape
 
 -- ---- the words of asks
@@ -103,48 +103,48 @@ scratch_words u h = shl_exact {a = 1} 1 u 64 (lit< tt) (omega arith) ∙ one-mul
 pub blocks_fit : (asks size : ℕ) → asks ≤ 32 → size ≤ 86 → Fits w64 (asks * size)
 blocks_fit asks size h g = let m = mul-le-mul h g in omega arith
 
-module _ (ws : List ℕ) (l : Layout) (asks table answers scratch : ℕ) (f : Filed ws l) where
+module _ (file : File) (asks table answers scratch : ℕ) where
   -- the table is too short
-  pub table_short : table < 64 → refused 13 0 ≡ memory_verdict (problem_of ws) asks table answers scratch
+  pub table_short : table < 64 → refused 13 0 ≡ memory_verdict (problem file) asks table answers scratch
   unfolding memory_verdict
   table_short h = rw (lt-leb 64 table h)
 
   -- or too long
-  pub table_long : 16384 < table → refused 13 0 ≡ memory_verdict (problem_of ws) asks table answers scratch
+  pub table_long : 16384 < table → refused 13 0 ≡ memory_verdict (problem file) asks table answers scratch
   unfolding memory_verdict
   table_long h = rw (lt-leb table 16384 h, and_last_false (leb 64 table))
 
-  module _ (low : 64 ≤ table) (high : table ≤ 16384) (size : ℕ) (is : size ≡ shape.block_size l.units l.weeks) where
-    sized : asks * size ≡ asks * block_size (problem_of ws)
+  module _ (low : 64 ≤ table) (high : table ≤ 16384) (size : ℕ) (is : size ≡ shape.block_size file.layout.units file.layout.weeks) where
+    sized : asks * size ≡ asks * block_size (problem file)
     unfolding block_size
-    sized = rw (f.units_are, f.weeks_are, is)
+    sized = rw (file.filed.units_are, file.filed.weeks_are, is)
 
     -- the answers have too few words
-    pub answers_short : answers < asks * size → refused 14 0 ≡ memory_verdict (problem_of ws) asks table answers scratch
+    pub answers_short : answers < asks * size → refused 14 0 ≡ memory_verdict (problem file) asks table answers scratch
     unfolding memory_verdict
-    answers_short h = rw (le-leb 64 table low, le-leb table 16384 high, lt-leb (asks * block_size (problem_of ws)) answers (rw (← sized) h))
+    answers_short h = rw (le-leb 64 table low, le-leb table 16384 high, lt-leb (asks * block_size (problem file)) answers (rw (← sized) h))
 
-    module _ (some : asks * size ≤ answers) (wanted : ℕ) (two : wanted ≡ 2 ^ l.units) where
+    module _ (some : asks * size ≤ answers) (wanted : ℕ) (two : wanted ≡ 2 ^ file.layout.units) where
       -- the scratch has
-      pub scratch_short : scratch < wanted → refused 15 0 ≡ memory_verdict (problem_of ws) asks table answers scratch
+      pub scratch_short : scratch < wanted → refused 15 0 ≡ memory_verdict (problem file) asks table answers scratch
       unfolding memory_verdict
       scratch_short h =
           rw (
             le-leb 64 table low,
             le-leb table 16384 high,
-            le-leb (asks * block_size (problem_of ws)) answers (rw (← sized) some),
-            f.units_are,
-            lt-leb (2 ^ l.units) scratch (rw (← two) h),
+            le-leb (asks * block_size (problem file)) answers (rw (← sized) some),
+            file.filed.units_are,
+            lt-leb (2 ^ file.layout.units) scratch (rw (← two) h),
           )
 
       -- all is enough
-      pub memory_enough : wanted ≤ scratch → accepted ≡ memory_verdict (problem_of ws) asks table answers scratch
+      pub memory_enough : wanted ≤ scratch → accepted ≡ memory_verdict (problem file) asks table answers scratch
       unfolding memory_verdict
       memory_enough h =
           rw (
             le-leb 64 table low,
             le-leb table 16384 high,
-            le-leb (asks * block_size (problem_of ws)) answers (rw (← sized) some),
-            f.units_are,
-            le-leb (2 ^ l.units) scratch (rw (← two) h),
+            le-leb (asks * block_size (problem file)) answers (rw (← sized) some),
+            file.filed.units_are,
+            le-leb (2 ^ file.layout.units) scratch (rw (← two) h),
           )

@@ -2,15 +2,15 @@
 #![tactic(auto)]
 
 ghost use Rattle.std.specs.Prelude.{◌≡◌, ◌^◌, ◌<◌, ◌≤◌, length};
-ghost use Rattle.model.specs.Words.{VALUES, problem_of};
+ghost use Rattle.model.specs.Words.{VALUES};
 ghost use Rattle.model.specs.Verdict.{first_fault};
 ghost use Rattle.model.specs.Refusal.{ask_fault, asks_verdict, memory_verdict, run_verdict};
 ghost use Rattle.model.specs.Asks.{ceiling_at, budget_at};
 ghost use Rattle.decoder.specs.Answers.{fault_number, verdict_of};
-ghost use Rattle.instance.specs.Filed.{Filed};
+ghost use Rattle.instance.specs.File.{problem};
 
+use instance::File;
 use decoder::{Fault, Refusal};
-use model::Layout;
 
 // ---- the words
 
@@ -89,17 +89,9 @@ fn scratch_wanted(u: usize) -> usize
 }
 
 // Lent memory for some asks: the table, the answers, the scratch.
-fn memory_verdict(
-    words: &[u32],
-    l: Layout,
-    asks: usize,
-    table: usize,
-    answers: usize,
-    scratch: usize,
-) -> Result<(), Refusal>
-    requires filed { Filed words.now l }
+fn memory_verdict(file: &File, asks: usize, table: usize, answers: usize, scratch: usize) -> Result<(), Refusal>
     requires asks_bound { asks ≤ 32 }
-    ensures { verdict_of result ≡ memory_verdict (problem_of words.now) asks table answers scratch }
+    ensures { verdict_of result ≡ memory_verdict (problem file.now) asks table answers scratch }
 {
     if table < 64 {
         return Err(Fault::TableSize.at(0));
@@ -107,10 +99,10 @@ fn memory_verdict(
     if 16384 < table {
         return Err(Fault::TableSize.at(0));
     }
-    if answers < asks * shape::block_size(l.units, l.weeks) {
+    if answers < asks * shape::block_size(file.layout.units, file.layout.weeks) {
         return Err(Fault::AnswersTooShort.at(0));
     }
-    if scratch < scratch_wanted(l.units) {
+    if scratch < scratch_wanted(file.layout.units) {
         return Err(Fault::ScratchTooShort.at(0));
     }
     Ok(())
@@ -128,12 +120,5 @@ pub fn run_verdict(
 {
     decoder::read(words)?;
     asks_verdict(asks)?;
-    memory_verdict(
-        words,
-        instance::layout_of(words),
-        asks.len() / 2,
-        table,
-        answers,
-        scratch,
-    )
+    memory_verdict(&File::new(words), asks.len() / 2, table, answers, scratch)
 }

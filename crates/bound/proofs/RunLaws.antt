@@ -7,6 +7,7 @@ use mathlib.Core.List.{List}
 use native.Mathlib.Omega.{arith}
 use lib.ListN.{length, get_or, set, replicate}
 use borrow.Author.Tests.{lt-ltb, le-ltb}
+use Rattle.std.specs.Prelude.{Option, Some, None}
 use Rattle.sums.specs.NumSet.{NumSet, has}
 use Rattle.sums.proofs.LoopLaws.{place_next}
 use Rattle.sums.proofs.NumSetLaws.{zero_has}
@@ -18,7 +19,6 @@ use Rattle.model.proofs.CommitmentLaws.{cheapest_right, cheapest_picked, none_pi
 use Rattle.instance.specs.declared.file.File.{File}
 use Rattle.instance.specs.File.{problem}
 use Rattle.commitment.specs.declared.BestRun.{BestRun}
-use Rattle.commitment.specs.declared.BestRun.TheVariants.{Nothing, Run}
 use Rattle.commitment.specs.Answers.{Answers}
 use Rattle.instance.specs.declared.Euro.{Euro}
 use Rattle.blame.specs.Placed.{first_units, out_of, run_of, run_at}
@@ -29,16 +29,16 @@ use Rattle.bound.proofs.RowLaws.{rows_none, rows_joined}
 
 -- ---- the answer for a week
 
-module _ (p : Problem) (t out : ℕ) (found : BestRun) (a : Answers p t (has out) found) where
+module _ (p : Problem) (t out : ℕ) (found : Option BestRun) (a : Answers p t (has out) found) where
   -- no run
-  pub run_none : found ≡ Nothing → 0 ≡ run_of (cheapest_run p t (has out))
+  pub run_none : found ≡ None → 0 ≡ run_of (cheapest_run p t (has out))
   unfolding run_of
   run_none e = rw (none_picked p t (has out) (subst (Answers p t (has out)) e a))
 
   -- the cheapest
-  pub run_found : (r : ℕ) (c : Euro) → found ≡ Run r c → r ≡ run_of (cheapest_run p t (has out))
+  pub run_found : (r : BestRun) → found ≡ Some r → r.number ≡ run_of (cheapest_run p t (has out))
   unfolding run_of
-  run_found r c e = rw (cheapest_picked p t (has out) r (subst (Answers p t (has out)) e a).0)
+  run_found r e = rw (cheapest_picked p t (has out) r.number (subst (Answers p t (has out)) e a).0)
 
 -- the same units out leave the same run: each run costs the same
 pub run_same : (p : Problem) (t : ℕ) (a b : NumSet) → ((i : ℕ) → i < p.units → a i ≡ b i) → cheapest_run p t a ≡ cheapest_run p t b

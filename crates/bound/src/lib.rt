@@ -22,7 +22,6 @@ ghost use Rattle.bound.specs.Tests.{StartBounded, with_start, Weighing, TestDue,
 ghost use Rattle.bound.specs.Tests.{MOST_LEAST, some_startless, Permits, RunsOf};
 ghost use Rattle.instance.specs.File.{problem};
 
-use commitment::BestRun;
 use dual::Node;
 use instance::{Euro, File};
 use model::NO_RUN;
@@ -204,10 +203,9 @@ fn run_of(file: &File, t: usize, word: u64) -> u32
     requires { (t < file.now.layout.weeks) }
     ensures { result ≡ run_of (cheapest_run (problem file.now) t (has (word % SETS))) }
 {
-    let found = commitment::cheapest(file, t, (word % ROW_SETS) as u32);
-    match found {
-        BestRun::Nothing => 0,
-        BestRun::Run(r, _) => r,
+    match commitment::cheapest(file, t, (word % ROW_SETS) as u32) {
+        None => 0,
+        Some(run) => run.number,
     }
 }
 

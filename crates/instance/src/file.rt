@@ -28,7 +28,7 @@ impl<'a> File<'a> {
     // The file of words that a reader accepted.
     pub fn new(words: &'a [u32]) -> File<'a>
         requires { read_of words.now ≡ accepted }
-        ensures { result.words ≡ words.entry }
+        ensures { result.words.now ≡ words.now }
     {
         File {
             words,

@@ -16,6 +16,7 @@ module _ (ws asks answers table scratch : List ℕ) where
   ran_refused number place said = record { told = said; outcome = (refl, refl, refl) }
 
   -- answered
-  pub ran_answered : (answers' table' scratch' : List ℕ) → accepted ≡ run_verdict ws asks (length table) (length answers) (length scratch)
-      → Answered (problem_of ws) asks answers answers' table' → length table' ≡ length table → Ran accepted ws asks answers table scratch answers' table' scratch'
-  ran_answered answers' table' scratch' said a long = record { told = said; outcome = (a, long) }
+  pub ran_answered : (answers' table' scratch' : List ℕ) (file : File) → file.words.now ≡ ws → accepted ≡ run_verdict ws asks (length table) (length answers) (length scratch)
+      → Answered (problem file) asks answers answers' table' → length table' ≡ length table → Ran accepted ws asks answers table scratch answers' table' scratch'
+  ran_answered answers' table' scratch' file same said a long =
+      record { told = said; outcome = (subst (λ (w : List ℕ). Answered (problem_of w) asks answers answers' table') same a, long) }

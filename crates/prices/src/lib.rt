@@ -112,7 +112,7 @@ fn ascend(file: &File, first: &[u32; TABLES], root: u64, wants: &mut Wants, work
         idle: 0,
     };
     // Each time round, `s` has the bound at the prices of `best`, the highest so far, and that at the prices of `tables`, at which `wants` is wanted.
-    for _ in 0..l.units * ROUNDS {
+    for _ in 0..file.layout.units * ROUNDS {
         let Some(root) = run_round(file, s, &mut tables, &mut push, wants, work, memo) else {
             break;
         };

@@ -57,7 +57,7 @@ fn update_unit(file: &File, wants: &Wants, i: usize, push: &mut [u32; PLACES])
 {
     let start = wants.starts[i];
     let duration = file.duration(i);
-    for t in 0..l.weeks {
+    for t in 0..file.layout.weeks {
         let up = push_of(in_overhaul(start, duration, t));
         let down = push_of(sets::has(wants.out[t], i));
         let place = t * 16 + i;
@@ -70,7 +70,7 @@ pub fn update_momentum(file: &File, wants: &Wants, push: &mut [u32; PLACES])
     requires { AtMost MOST_PUSH push.old }
     ensures { AtMost MOST_PUSH push.new }
 {
-    for i in 0..l.units {
+    for i in 0..file.layout.units {
         update_unit(file, wants, i, push);
     }
 }

@@ -104,7 +104,7 @@ fn choose_starts(file: &File, tables: &[u32; TABLES], wants: &mut Wants) -> Opti
     ensures { IfSome result (λ sum. sum.0 ≤ 16 * MOST_UNIT_COST) }
 {
     let mut sum = Euro(0);
-    for i in 0..l.units {
+    for i in 0..file.layout.units {
         let least = least_start(file, tables, i)?;
         wants.starts[i] = least.start as u32;
         sum += least.cost;
@@ -122,7 +122,7 @@ fn choose_weeks(file: &File, tables: &[u32; TABLES], wants: &mut Wants, work: &m
 {
     let mut sum = Euro(0);
     // Each time round, the weeks below t have runs, and `sum` is their value.
-    for t in 0..l.weeks {
+    for t in 0..file.layout.weeks {
         let effort = effort::effort_of(file.layout, work, t);
         let choice = relaxation::best_choice(file, tables, t, 0, effort, memo);
         if NO_RUN <= choice.value.0 {

@@ -8,35 +8,34 @@ use borrow.Author.Tests.{le-leb, lt-leb}
 use Rattle.sums.specs.NumSet.{has}
 use Rattle.sums.specs.Range.{list_to}
 use Rattle.sums.proofs.LoopLaws.{list_next, list_ended}
-use Rattle.model.specs.declared.Layout.{Layout}
 use Rattle.model.specs.Problem.{Problem}
-use Rattle.model.specs.Words.{problem_of}
 use Rattle.model.specs.Commitment.{least_cost, NO_RUN}
 use Rattle.model.specs.Verdict.{accepted, refused}
 use Rattle.model.specs.Reading.{read_of}
 use Rattle.sets.specs.Sets.{SETS}
-use Rattle.instance.specs.Filed.{Filed}
+use Rattle.instance.specs.declared.file.File.{File}
+use Rattle.instance.specs.File.{problem}
 use Rattle.quotes.specs.Quotes.{query_cost, cost_at, costs_verdict, costs_into}
 use Rattle.quotes.proofs.QuoteLaws.{among_zero, among_beyond, among_in}
 
 -- ---- one query
 
-module _ (ws : List ℕ) (l : Layout) (query week : ℕ) (f : Filed ws l) (is : week ≡ query / SETS) where
+module _ (file : File) (query week : ℕ) (is : week ≡ query / SETS) where
   -- there is no week 0
-  pub query_zero : week ≡ 0 → NO_RUN ≡ query_cost (problem_of ws) query
+  pub query_zero : week ≡ 0 → NO_RUN ≡ query_cost (problem file) query
   unfolding query_cost
-  query_zero e = rw (← is, among_zero (problem_of ws).weeks week e)
+  query_zero e = rw (← is, among_zero (problem file).weeks week e)
 
   -- nor one past the last
-  pub query_beyond : l.weeks < week → NO_RUN ≡ query_cost (problem_of ws) query
+  pub query_beyond : file.layout.weeks < week → NO_RUN ≡ query_cost (problem file) query
   unfolding query_cost
-  query_beyond h = rw (← is, among_beyond (problem_of ws).weeks week (rw f.weeks_are h))
+  query_beyond h = rw (← is, among_beyond (problem file).weeks week (rw file.filed.weeks_are h))
 
   -- a week of the file
-  pub query_some : (r : ℕ) → (week ≡ 0 → ⊥) → week ≤ l.weeks → r ≡ least_cost (problem_of ws) (week - 1) (has (query % SETS))
-      → r ≡ query_cost (problem_of ws) query
+  pub query_some : (r : ℕ) → (week ≡ 0 → ⊥) → week ≤ file.layout.weeks → r ≡ least_cost (problem file) (week - 1) (has (query % SETS))
+      → r ≡ query_cost (problem file) query
   unfolding query_cost
-  query_some r z h e = rw (← is, among_in (problem_of ws).weeks week z (rw f.weeks_are h)) e
+  query_some r z h e = rw (← is, among_in (problem file).weeks week z (rw file.filed.weeks_are h)) e
 
 -- ---- the list
 

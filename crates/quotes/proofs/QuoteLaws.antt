@@ -9,6 +9,7 @@ use lib.Dec.{leb}
 use mir.Syntax.{w32}
 use mir.Val.{Fits}
 use borrow.Author.Tests.{leb-true, le-leb, lt-leb}
+use Rattle.std.specs.Prelude.{Option, None, Some}
 use Rattle.sums.specs.NumSet.{has}
 use Rattle.sums.proofs.LogicLaws.{and_of, and_left, and_right}
 use Rattle.model.specs.declared.Layout.{Layout}
@@ -18,12 +19,13 @@ use Rattle.model.specs.Words.{layout_of, problem_of}
 use Rattle.model.specs.Verdict.{accepted, refused}
 use Rattle.model.specs.Reading.{read_of}
 use Rattle.model.proofs.CommitmentLaws.{cheapest_picked, none_picked}
+use Rattle.instance.specs.declared.file.File.{File}
+use Rattle.instance.specs.File.{problem}
 use Rattle.instance.specs.declared.Euro.{Euro}
 use Rattle.instance.specs.Filed.{Filed}
 use Rattle.instance.proofs.FiledLaws.{filed}
 use Rattle.overhaul.specs.Range.{StartRange}
 use Rattle.commitment.specs.declared.BestRun.{BestRun}
-use Rattle.commitment.specs.declared.BestRun.TheVariants.{Nothing, Run}
 use Rattle.commitment.specs.Answers.{Answers}
 use Rattle.commitment.proofs.ScoreLaws.{served_small}
 use Rattle.quotes.specs.Quotes.{Quoted, none, quoted, refused_quote, quote_with, among, pick_quote, run_quote, start_quote, upkeep_quote}
@@ -52,59 +54,59 @@ among_most n k e = leb-true k n (and_right (leb 1 k) (leb k n) e)
 
 -- ---- a week
 
-module _ (ws : List ℕ) (l : Layout) (week out : ℕ) (f : Filed ws l) where
+module _ (file : File) (week out : ℕ) where
   -- there is no week 0
-  pub run_zero : week ≡ 0 → none ≡ run_quote (problem_of ws) week out
+  pub run_zero : week ≡ 0 → none ≡ run_quote (problem file) week out
   unfolding run_quote
-  run_zero e = rw (among_zero (problem_of ws).weeks week e)
+  run_zero e = rw (among_zero (problem file).weeks week e)
 
   -- nor one past the last
-  pub run_beyond : l.weeks < week → none ≡ run_quote (problem_of ws) week out
+  pub run_beyond : file.layout.weeks < week → none ≡ run_quote (problem file) week out
   unfolding run_quote
-  run_beyond h = rw (among_beyond (problem_of ws).weeks week (rw f.weeks_are h))
+  run_beyond h = rw (among_beyond (problem file).weeks week (rw file.filed.weeks_are h))
 
-  module _ (found : BestRun) (z : week ≡ 0 → ⊥) (h : week ≤ l.weeks) (a : Answers (problem_of ws) (week - 1) (has out) found) where
-    inside : among (problem_of ws).weeks week ≡ true
-    inside = among_in (problem_of ws).weeks week z (rw f.weeks_are h)
+  module _ (found : Option BestRun) (z : week ≡ 0 → ⊥) (h : week ≤ file.layout.weeks) (a : Answers (problem file) (week - 1) (has out) found) where
+    inside : among (problem file).weeks week ≡ true
+    inside = among_in (problem file).weeks week z (rw file.filed.weeks_are h)
 
     -- no run meets the demand
-    pub run_none : found ≡ Nothing → none ≡ run_quote (problem_of ws) week out
+    pub run_none : found ≡ None → none ≡ run_quote (problem file) week out
     unfolding run_quote pick_quote
-    run_none e = rw (inside, none_picked (problem_of ws) (week - 1) (has out) (subst (Answers (problem_of ws) (week - 1) (has out)) e a))
+    run_none e = rw (inside, none_picked (problem file) (week - 1) (has out) (subst (Answers (problem file) (week - 1) (has out)) e a))
 
-    module _ (r : ℕ) (c : Euro) (e : found ≡ Run r c) where
+    module _ (r : BestRun) (e : found ≡ Some r) where
       -- the cheapest run and its cost
-      pub run_some : quoted r c.0 ≡ run_quote (problem_of ws) week out
+      pub run_some : quoted r.number r.cost.0 ≡ run_quote (problem file) week out
       unfolding run_quote pick_quote
       run_some =
-          let b = subst (Answers (problem_of ws) (week - 1) (has out)) e a in
-          rw (inside, cheapest_picked (problem_of ws) (week - 1) (has out) r b.0, b.1)
+          let b = subst (Answers (problem file) (week - 1) (has out)) e a in
+          rw (inside, cheapest_picked (problem file) (week - 1) (has out) r.number b.0, b.1)
 
       -- which fits a word of 32 bits
-      pub run_fits : Fits w32 c.0
+      pub run_fits : Fits w32 r.cost.0
       run_fits =
-          let b = subst (Answers (problem_of ws) (week - 1) (has out)) e a in
-          let d : week - 1 < l.weeks = omega arith in
-          omega (arith, b.1, served_small ws l (week - 1) (has out) f d r b.0.serves)
+          let b = subst (Answers (problem file) (week - 1) (has out)) e a in
+          let d : week - 1 < file.layout.weeks = omega arith in
+          omega (arith, b.1, served_small file (week - 1) (has out) d r.number b.0.serves)
 
 -- ---- an overhaul
 
-module _ (ws : List ℕ) (l : Layout) (unit start : ℕ) (f : Filed ws l) where
+module _ (file : File) (unit start : ℕ) where
   -- there is no unit 0
-  pub over_zero : unit ≡ 0 → none ≡ upkeep_quote (problem_of ws) unit start
+  pub over_zero : unit ≡ 0 → none ≡ upkeep_quote (problem file) unit start
   unfolding upkeep_quote
-  over_zero e = rw (among_zero (problem_of ws).units unit e)
+  over_zero e = rw (among_zero (problem file).units unit e)
 
   -- nor one past the last
-  pub over_beyond : l.units < unit → none ≡ upkeep_quote (problem_of ws) unit start
+  pub over_beyond : file.layout.units < unit → none ≡ upkeep_quote (problem file) unit start
   unfolding upkeep_quote
-  over_beyond h = rw (among_beyond (problem_of ws).units unit (rw f.units_are h))
+  over_beyond h = rw (among_beyond (problem file).units unit (rw file.filed.units_are h))
 
   -- one of the file's
-  pub over_some : (q : Quoted) → (unit ≡ 0 → ⊥) → unit ≤ l.units → q ≡ start_quote (problem_of ws) (unit - 1) start
-      → q ≡ upkeep_quote (problem_of ws) unit start
+  pub over_some : (q : Quoted) → (unit ≡ 0 → ⊥) → unit ≤ file.layout.units → q ≡ start_quote (problem file) (unit - 1) start
+      → q ≡ upkeep_quote (problem file) unit start
   unfolding upkeep_quote
-  over_some q z h e = rw (among_in (problem_of ws).units unit z (rw f.units_are h)) e
+  over_some q z h e = rw (among_in (problem file).units unit z (rw file.filed.units_are h)) e
 
 module _ (ws : List ℕ) (i start first last : ℕ) (range : StartRange (problem_of ws) i first last) where
   -- a start before the first
@@ -136,12 +138,7 @@ module _ (ws : List ℕ) where
   unfolding quote_with
   quote_refused number place q r = rw (← r)
 
-  module _ (passed : accepted ≡ read_of ws) where
-    -- an accepted file and its layout
-    pub quote_filed : (l : Layout) → l ≡ layout_of ws → Filed ws l
-    quote_filed l laid = filed ws l (sym passed) laid
-
-    -- what is said of it
-    pub quote_said : (r q : Quoted) → r ≡ q → r ≡ quote_with (read_of ws) q
-    unfolding quote_with
-    quote_said r q s = rw (← passed) s
+-- what is said of an accepted file
+pub quote_said : (file : File) (r q : Quoted) → r ≡ q → r ≡ quote_with (read_of file.words.now) q
+unfolding quote_with
+quote_said file r q s = rw file.filed.passed s

@@ -6,15 +6,15 @@ ghost use Rattle.std.specs.Prelude.{◌≡◌, ◌<◌, ◌≤◌, length};
 ghost use Rattle.model.specs.Verdict.{accepted};
 ghost use Rattle.model.specs.Reading.{read_of};
 ghost use Rattle.model.specs.Words.{problem_of};
-ghost use Rattle.instance.specs.Filed.{Filed};
 ghost use Rattle.decoder.specs.Answers.{verdict_of};
 ghost use Rattle.memo.specs.Memo.{Right};
 ghost use Rattle.quotes.specs.Quotes.{quote_with, run_quote, start_quote, upkeep_quote, query_cost, costs_verdict, costs_into, KeptIfRefused};
 ghost use Rattle.quotes.specs.Answers.{quote_of, quoted_of};
+ghost use Rattle.instance.specs.File.{problem};
 
-use commitment::BestRun;
+use instance::File;
 use decoder::{Fault, Refusal};
-use model::{Layout, NO_RUN};
+use model::NO_RUN;
 use sets::SETS;
 
 // A number and its cost in euros: a week's cheapest run, or the start that was asked about, so that one quote serves both.
@@ -25,23 +25,20 @@ pub struct Quote {
 }
 
 // The cheapest run of a week of an accepted file.
-fn filed_run(words: &[u32], l: Layout, week: usize, out: u32) -> Option<Quote>
-    requires { Filed words.now l }
-    ensures { quote_of result ≡ run_quote (problem_of words.now) week out }
+fn filed_run(file: &File, week: usize, out: u32) -> Option<Quote>
+    ensures { quote_of result ≡ run_quote (problem file.now) week out }
 {
     if week == 0 {
         return None;
     }
-    if l.weeks < week {
+    if file.layout.weeks < week {
         return None;
     }
-    match commitment::cheapest(words, l, week - 1, out) {
-        BestRun::Nothing => None,
-        BestRun::Run(run, cost) => Some(Quote {
-            number: run,
-            cost: cost.0 as u32,
-        }),
-    }
+    let run = commitment::cheapest(file, week - 1, out)?;
+    Some(Quote {
+        number: run.number,
+        cost: run.cost.0 as u32,
+    })
 }
 
 // The cheapest run of a week with these units out: its number and its cost; or the file's refusal.
@@ -49,23 +46,22 @@ pub fn cheapest_run(words: &[u32], week: usize, out: u32) -> Result<Option<Quote
     ensures { quoted_of result ≡ quote_with (read_of words.now) (run_quote (problem_of words.now) week out) }
 {
     decoder::read(words)?;
-    Ok(filed_run(words, instance::layout_of(words), week, out))
+    Ok(filed_run(&File::new(words), week, out))
 }
 
 // What the overhaul of unit i, from 0, costs from a start.
-fn start_quote(words: &[u32], l: Layout, i: usize, start: usize) -> Option<Quote>
-    requires filed { Filed words.now l }
-    requires i_lt_units { i < l.units }
-    ensures { quote_of result ≡ start_quote (problem_of words.now) i start }
+fn start_quote(file: &File, i: usize, start: usize) -> Option<Quote>
+    requires i_lt_units { i < file.now.layout.units }
+    ensures { quote_of result ≡ start_quote (problem file.now) i start }
 {
-    let starts = overhaul::starts_of(words, l, i);
+    let starts = overhaul::starts_of(file, i);
     if start < starts.first {
         return None;
     }
     if starts.last < start {
         return None;
     }
-    let cost = overhaul::upkeep(words, l, i, start);
+    let cost = overhaul::upkeep(file, i, start);
     Some(Quote {
         number: start as u32,
         cost: cost.0 as u32,
@@ -73,17 +69,16 @@ fn start_quote(words: &[u32], l: Layout, i: usize, start: usize) -> Option<Quote
 }
 
 // The same of a unit of an accepted file.
-fn filed_upkeep(words: &[u32], l: Layout, unit: usize, start: usize) -> Option<Quote>
-    requires { Filed words.now l }
-    ensures { quote_of result ≡ upkeep_quote (problem_of words.now) unit start }
+fn filed_upkeep(file: &File, unit: usize, start: usize) -> Option<Quote>
+    ensures { quote_of result ≡ upkeep_quote (problem file.now) unit start }
 {
     if unit == 0 {
         return None;
     }
-    if l.units < unit {
+    if file.layout.units < unit {
         return None;
     }
-    start_quote(words, l, unit - 1, start)
+    start_quote(file, unit - 1, start)
 }
 
 // What the overhaul of a unit costs in maintenance from a permitted start: the start and the cost; or the file's refusal.
@@ -91,37 +86,35 @@ pub fn upkeep(words: &[u32], unit: usize, start: usize) -> Result<Option<Quote>,
     ensures { quoted_of result ≡ quote_with (read_of words.now) (upkeep_quote (problem_of words.now) unit start) }
 {
     decoder::read(words)?;
-    Ok(filed_upkeep(words, instance::layout_of(words), unit, start))
+    Ok(filed_upkeep(&File::new(words), unit, start))
 }
 
 // The cost that a query asks for: a week times SETS and the units out.
-fn query_cost(words: &[u32], l: Layout, query: u32, scratch: &mut [u32]) -> u32
-    requires filed { Filed words.now l }
-    requires right { Right (problem_of words.now) scratch.old }
-    ensures answer { result ≡ query_cost (problem_of words.now) query }
-    ensures kept { Right (problem_of words.now) scratch.new }
+fn query_cost(file: &File, query: u32, scratch: &mut [u32]) -> u32
+    requires right { Right (problem file.now) scratch.old }
+    ensures answer { result ≡ query_cost (problem file.now) query }
+    ensures kept { Right (problem file.now) scratch.new }
 {
     let asked = words::widen(query / SETS);
     if asked == 0 {
         return NO_RUN as u32;
     }
-    if l.weeks < asked {
+    if file.layout.weeks < asked {
         return NO_RUN as u32;
     }
-    let cost = memo::least_cost(words, l, asked - 1, query % SETS, scratch);
+    let cost = memo::least_cost(file, asked - 1, query % SETS, scratch);
     cost.0 as u32
 }
 
 // Writes the costs; the words beyond are kept.
-fn write(words: &[u32], l: Layout, queries: &[u32], scratch: &mut [u32], costs: &mut [u32])
-    requires filed { Filed words.now l }
-    requires right { Right (problem_of words.now) scratch.old }
+fn write(file: &File, queries: &[u32], scratch: &mut [u32], costs: &mut [u32])
+    requires right { Right (problem file.now) scratch.old }
     requires queries_in_bounds { length queries.now ≤ length costs.old }
-    ensures { costs.new ≡ costs_into accepted (problem_of words.now) queries.now costs.old }
+    ensures { costs.new ≡ costs_into accepted (problem file.now) queries.now costs.old }
 {
     let n = queries.len();
     for k in 0..n {
-        costs[k] = query_cost(words, l, queries[k], scratch);
+        costs[k] = query_cost(file, queries[k], scratch);
     }
 }
 
@@ -144,6 +137,6 @@ pub fn quote_weeks(
         return Err(Fault::TooFewWords.at(0));
     }
     memo::clear(scratch);
-    write(words, instance::layout_of(words), queries, scratch, costs);
+    write(&File::new(words), queries, scratch, costs);
     Ok(())
 }

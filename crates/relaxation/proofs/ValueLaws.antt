@@ -6,6 +6,7 @@ use mathlib.Core.List.{List}
 use native.Mathlib.Nat.{mul-le-mul_right}
 use native.Mathlib.Omega.{arith}
 use lib.ListN.{get_or, replicate}
+use Rattle.std.specs.Prelude.{Option, Some}
 use Rattle.sums.specs.NumSet.{NumSet, has}
 use Rattle.sets.specs.Sets.{SETS}
 use Rattle.model.specs.Problem.{Problem}
@@ -15,8 +16,6 @@ use Rattle.instance.specs.declared.file.File.{File}
 use Rattle.instance.specs.File.{problem}
 use Rattle.instance.specs.Filed.{Filed}
 use Rattle.commitment.proofs.ScoreLaws.{run_small}
-use Rattle.memo.specs.declared.Stored.{Stored}
-use Rattle.memo.specs.declared.Stored.TheVariants.{Word}
 use Rattle.memo.specs.Memo.{Entry, Present, Looked, Wrote, OTHERS, Others, key_of, Right}
 use Rattle.memo.proofs.EntryLaws.{empty_key, right_empty, right_kept, wrote_all}
 use Rattle.blame.specs.Priced.{WeekLeast}
@@ -126,8 +125,8 @@ pub recalls_others : (p : Problem) (u : ℕ → ℕ → ℕ) (memo memo' : List 
 recalls_others p u memo memo' r right same = record { costs = right; values = values_others p u memo memo' r.values same }
 
 -- what is found under a value's key
-pub value_found : (p : Problem) (u : ℕ → ℕ → ℕ) (memo : List ℕ) (t out key v : ℕ) (found : Stored) → MemoTrue p u memo → out < SETS
-    → key ≡ value_key t out → Looked memo key found → found ≡ Word v → Value p u t (has out) v
+pub value_found : (p : Problem) (u : ℕ → ℕ → ℕ) (memo : List ℕ) (t out key v : ℕ) (found : Option ℕ) → MemoTrue p u memo → out < SETS
+    → key ≡ value_key t out → Looked memo key found → found ≡ Some v → Value p u t (has out) v
 value_found p u memo t out key v found r b k looked is =
     let h : Present memo key v = subst (Looked memo key) is looked in
     subst (Value p u t (has out)) h.entry.kept (r.values.holds h.at t out b (h.entry.under ∙ k))

@@ -16,7 +16,6 @@ ghost use Rattle.relaxation.specs.Choosing.{MOST_VALUE, Floor, Lowers, NoGain, N
 ghost use Rattle.instance.specs.File.{problem};
 
 use instance::{Euro, File};
-use memo::Stored;
 use model::NO_RUN;
 use sets::SETS;
 use states::WeekTask;
@@ -304,8 +303,7 @@ pub fn week_value(file: &File, tables: &[u32; TABLES], t: usize, out: u32, memo:
         return computed_value(file, tables, t, out, memo);
     }
     let key = asked::value_key(t, out);
-    let found = memo::lookup(memo, key);
-    if let Stored::Word(word) = found {
+    if let Some(word) = memo::lookup(memo, key) {
         return Euro(word as u64);
     }
     let value = computed_value(file, tables, t, out, memo);

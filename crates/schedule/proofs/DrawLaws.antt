@@ -12,14 +12,15 @@ use borrow.Author.Tests.{le-leb, lt-leb}
 use Rattle.sums.specs.NumSet.{has}
 use Rattle.sums.specs.Range.{list_to}
 use Rattle.sums.proofs.LoopLaws.{list_ended}
-use Rattle.model.specs.declared.Layout.{Layout}
 use Rattle.model.specs.Problem.{Problem}
 use Rattle.model.specs.Grid.{States, state_at}
 use Rattle.model.specs.Schedule.{Schedule, schedule_of, in_span, out_in, lay_out}
-use Rattle.model.specs.Words.{layout_of, problem_of}
+use Rattle.model.specs.Words.{layout_of}
 use Rattle.model.specs.Verdict.{accepted, refused}
 use Rattle.model.specs.Reading.{read_of}
 use Rattle.model.specs.Drawing.{draw_verdict, drawn_into}
+use Rattle.instance.specs.declared.file.File.{File}
+use Rattle.instance.specs.File.{problem}
 use Rattle.instance.specs.Filed.{Filed}
 use Rattle.instance.proofs.FiledLaws.{filed, cells_are}
 
@@ -43,19 +44,19 @@ module _ (p : Problem) (ss rs : List ℕ) (t i : ℕ) (out : Bool) (is : out ≡
 
 -- ---- the bytes
 
-module _ (ws : List ℕ) (l : Layout) (f : Filed ws l) where
+module _ (file : File) where
   -- byte q tells the state of its week and unit
-  pub byte_state : (x : States) (q r : ℕ) → r ≡ x (q / l.units) (q % l.units) → r ≡ state_at (problem_of ws) x q
+  pub byte_state : (x : States) (q r : ℕ) → r ≡ x (q / file.layout.units) (q % file.layout.units) → r ≡ state_at (problem file) x q
   unfolding state_at
-  byte_state x q r e = rw f.units_are e
+  byte_state x q r e = rw file.filed.units_are e
 
   -- all bytes of the grid
-  pub bytes_ended : (s : Schedule) (d g : List ℕ) (k : ℕ) → g ≡ list_to k (state_at (problem_of ws) (lay_out (problem_of ws) s)) ++ drop k d
-      → k ≤ l.weeks * l.units → l.weeks * l.units ≤ k → g ≡ drawn_into accepted (problem_of ws) s d
+  pub bytes_ended : (s : Schedule) (d g : List ℕ) (k : ℕ) → g ≡ list_to k (state_at (problem file) (lay_out (problem file) s)) ++ drop k d
+      → k ≤ file.layout.weeks * file.layout.units → file.layout.weeks * file.layout.units ≤ k → g ≡ drawn_into accepted (problem file) s d
   unfolding drawn_into
   bytes_ended s d g k e h m =
-      let n = cells_are ws l f in
-      list_ended (state_at (problem_of ws) (lay_out (problem_of ws) s)) d g k ((problem_of ws).weeks * (problem_of ws).units) e (omega arith) (omega arith)
+      let n = cells_are file.words.now file.layout file.filed in
+      list_ended (state_at (problem file) (lay_out (problem file) s)) d g k ((problem file).weeks * (problem file).units) e (omega arith) (omega arith)
 
 -- ---- the answer
 
@@ -64,24 +65,22 @@ pub drawn_refused : (ws : List ℕ) (number place lent : ℕ) → refused number
 unfolding draw_verdict
 drawn_refused ws number place lent said = rw (← said)
 
-module _ (ws : List ℕ) (l : Layout) (passed : accepted ≡ read_of ws) (laid : l ≡ layout_of ws) where
-  -- an accepted file and its layout
-  pub verdict_filed : Filed ws l
-  verdict_filed = filed ws l (sym passed) laid
-
-  -- whose number of bytes is no large one
-  pub bytes_fit : Fits w64 (l.weeks * l.units)
-  bytes_fit = omega (arith, verdict_filed.cells_most)
+module _ (file : File) where
+  -- the number of an accepted file's bytes is no large one
+  pub bytes_fit : Fits w64 (file.layout.weeks * file.layout.units)
+  bytes_fit = omega (arith, file.filed.cells_most)
 
   -- too few bytes are lent
-  pub drawn_short : (lent : ℕ) → lent < l.weeks * l.units → refused 17 0 ≡ draw_verdict ws lent
+  pub drawn_short : (lent : ℕ) → lent < file.layout.weeks * file.layout.units → refused 17 0 ≡ draw_verdict file.words.now lent
   unfolding draw_verdict
-  drawn_short lent h = rw (← passed, cells_are ws l verdict_filed, lt-leb (l.weeks * l.units) lent h)
+  drawn_short lent h =
+      rw (file.filed.passed, cells_are file.words.now file.layout file.filed, lt-leb (file.layout.weeks * file.layout.units) lent h)
 
   -- enough bytes are lent
-  pub drawn_all : (lent : ℕ) → l.weeks * l.units ≤ lent → accepted ≡ draw_verdict ws lent
+  pub drawn_all : (lent : ℕ) → file.layout.weeks * file.layout.units ≤ lent → accepted ≡ draw_verdict file.words.now lent
   unfolding draw_verdict
-  drawn_all lent h = rw (← passed, cells_are ws l verdict_filed, le-leb (l.weeks * l.units) lent h)
+  drawn_all lent h =
+      rw (file.filed.passed, cells_are file.words.now file.layout file.filed, le-leb (file.layout.weeks * file.layout.units) lent h)
 
 -- a refused call changes nothing
 pub bytes_kept : (number place : ℕ) (p : Problem) (s : Schedule) (d : List ℕ) → d ≡ drawn_into (refused number place) p s d

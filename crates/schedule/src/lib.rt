@@ -8,11 +8,11 @@ ghost use Rattle.model.specs.Grid.{state_at};
 ghost use Rattle.model.specs.Schedule.{schedule_of, in_span, lay_out};
 ghost use Rattle.model.specs.Verdict.{accepted};
 ghost use Rattle.model.specs.Drawing.{draw_verdict, drawn_into};
-ghost use Rattle.instance.specs.Filed.{Filed};
 ghost use Rattle.decoder.specs.Answers.{verdict_of};
+ghost use Rattle.instance.specs.File.{problem};
 
+use instance::File;
 use decoder::{Fault, Refusal};
-use model::Layout;
 
 // The number at place k of a list, 0 past its end.
 fn number_at(list: &[u32], k: usize) -> u32
@@ -23,23 +23,21 @@ fn number_at(list: &[u32], k: usize) -> u32
 
 // Whether week t lies in the overhaul of unit i.
 #[tactic(auto, using(sums::proofs::Tests::tests), unfolding(model::specs::Schedule::in_span))]
-fn overhauled(words: &[u32], starts: &[u32], l: Layout, t: usize, i: usize) -> bool
-    requires filed { Filed words.now l }
-    requires t_lt_weeks { (t < l.weeks) × (i < l.units) }
-    ensures { result ≡ in_span (get_or starts.now i 0) ((problem_of words.now).duration i) t }
+fn overhauled(file: &File, starts: &[u32], t: usize, i: usize) -> bool
+    requires t_lt_weeks { (t < file.now.layout.weeks) × (i < file.now.layout.units) }
+    ensures { result ≡ in_span (get_or starts.now i 0) ((problem file.now).duration i) t }
 {
     let start = words::widen(number_at(starts, i));
-    let duration = instance::duration(words, l, i);
+    let duration = file.duration(i);
     start <= t + 1 && t + 1 < start + duration
 }
 
 // The state of unit i in week t.
-fn state(words: &[u32], starts: &[u32], runs: &[u32], l: Layout, t: usize, i: usize) -> u8
-    requires filed { Filed words.now l }
-    requires t_lt_weeks { (t < l.weeks) × (i < l.units) }
-    ensures { result ≡ lay_out (problem_of words.now) (schedule_of starts.now runs.now) t i }
+fn state(file: &File, starts: &[u32], runs: &[u32], t: usize, i: usize) -> u8
+    requires t_lt_weeks { (t < file.now.layout.weeks) × (i < file.now.layout.units) }
+    ensures { result ≡ lay_out (problem file.now) (schedule_of starts.now runs.now) t i }
 {
-    if overhauled(words, starts, l, t, i) {
+    if overhauled(file, starts, t, i) {
         2
     } else if sets::has(number_at(runs, t), i) {
         1
@@ -49,24 +47,22 @@ fn state(words: &[u32], starts: &[u32], runs: &[u32], l: Layout, t: usize, i: us
 }
 
 // The state that byte q of the grid tells.
-fn drawn_state(words: &[u32], starts: &[u32], runs: &[u32], l: Layout, q: usize) -> u8
-    requires filed { Filed words.now l }
-    requires q_bound { q < l.weeks * l.units }
-    ensures { result ≡ state_at (problem_of words.now)
-        (lay_out (problem_of words.now) (schedule_of starts.now runs.now)) q }
+fn drawn_state(file: &File, starts: &[u32], runs: &[u32], q: usize) -> u8
+    requires q_bound { q < file.now.layout.weeks * file.now.layout.units }
+    ensures { result ≡ state_at (problem file.now)
+        (lay_out (problem file.now) (schedule_of starts.now runs.now)) q }
 {
-    state(words, starts, runs, l, q / l.units, q % l.units)
+    state(file, starts, runs, q / file.layout.units, q % file.layout.units)
 }
 
 // Writes the grid; the bytes beyond are kept.
-fn write(words: &[u32], starts: &[u32], runs: &[u32], l: Layout, grid: &mut [u8])
-    requires filed { Filed words.now l }
-    requires units_in_bounds { l.weeks * l.units ≤ length grid.old }
+fn write(file: &File, starts: &[u32], runs: &[u32], grid: &mut [u8])
+    requires units_in_bounds { file.now.layout.weeks * file.now.layout.units ≤ length grid.old }
     ensures { grid.new ≡
-        drawn_into accepted (problem_of words.now) (schedule_of starts.now runs.now) grid.old }
+        drawn_into accepted (problem file.now) (schedule_of starts.now runs.now) grid.old }
 {
-    for q in 0..l.weeks * l.units {
-        grid[q] = drawn_state(words, starts, runs, l, q);
+    for q in 0..file.layout.weeks * file.layout.units {
+        grid[q] = drawn_state(file, starts, runs, q);
     }
 }
 
@@ -78,10 +74,10 @@ pub fn draw(words: &[u32], starts: &[u32], runs: &[u32], grid: &mut [u8]) -> Res
         drawn_into (verdict_of result) (problem_of words.now) (schedule_of starts.now runs.now) grid.old }
 {
     decoder::read(words)?;
-    let l = instance::layout_of(words);
-    if grid.len() < l.weeks * l.units {
+    let file = File::new(words);
+    if grid.len() < file.layout.weeks * file.layout.units {
         return Err(Fault::TooFewWords.at(0));
     }
-    write(words, starts, runs, l, grid);
+    write(&file, starts, runs, grid);
     Ok(())
 }

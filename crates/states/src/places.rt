@@ -66,7 +66,7 @@ pub fn week_costs(file: &File, tables: &[u32; TABLES], t: usize, out: u32) -> Co
         outs: [0; 16],
         clashes: [0; 16],
     };
-    for i in 0..l.units {
+    for i in 0..file.layout.units {
         costs.caps[i] = place_cap(file, t, out, i);
         costs.ons[i] = place_on(file, tables, t, out, i);
         costs.offs[i] = place_off(file, tables, t, out, i);

@@ -3,8 +3,8 @@
 use Rattle.bound.proofs.RunLaws.{run_none, run_found}
 use Rattle.bound.proofs.run_of.Goals as goal
 
-pub returns-in-Nothing : goal.returns-in-Nothing
-returns-in-Nothing c = search run_none
+pub returns-in-None : goal.returns-in-None
+returns-in-None c = search run_none
 
-pub returns-in-Run : goal.returns-in-Run
-returns-in-Run c = search run_found
+pub returns-in-Some : goal.returns-in-Some
+returns-in-Some c = search run_found

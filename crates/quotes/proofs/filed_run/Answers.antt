@@ -6,8 +6,8 @@ use Rattle.quotes.proofs.filed_run.Goals as goal
 pub returns-then-week-eq0 : goal.returns-then-week-eq0
 returns-then-week-eq0 c = search run_zero
 
-pub returns-then-l-week : goal.returns-then-l-week
-returns-then-l-week c = search run_beyond
+pub returns-then-file-week : goal.returns-then-file-week
+returns-then-file-week c = search run_beyond
 
 pub overflow_cast-result : goal.overflow_cast-result
 overflow_cast-result c = search run_fits

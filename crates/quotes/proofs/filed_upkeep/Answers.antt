@@ -6,8 +6,8 @@ use Rattle.quotes.proofs.filed_upkeep.Goals as goal
 pub returns-then-unit-eq0 : goal.returns-then-unit-eq0
 returns-then-unit-eq0 c = search over_zero
 
-pub returns-then-l-unit : goal.returns-then-l-unit
-returns-then-l-unit c = search over_beyond
+pub returns-then-file-unit : goal.returns-then-file-unit
+returns-then-file-unit c = search over_beyond
 
 pub returns : goal.returns
 returns c = search over_some

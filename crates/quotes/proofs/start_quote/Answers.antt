@@ -11,7 +11,7 @@ pub returns-then-starts-start : goal.returns-then-starts-start
 returns-then-starts-start c = search start_late
 
 pub upkeep-cost-requires : goal.upkeep-cost-requires
-upkeep-cost-requires c = record { filed = search rules; i_lt_units = search rules; start_value = search start_permitted }
+upkeep-cost-requires c = record { i_lt_units = search rules; start_value = search start_permitted }
 
 pub returns : goal.returns
 returns c = search start_some

@@ -7,8 +7,8 @@ use Rattle.relaxation.proofs.week_value.Goals as goal
 pub returns-then-out-ge-SETS : goal.returns-then-out-ge-SETS
 returns-then-out-ge-SETS c = record { answer = search rules; recalls = search recalls_others }
 
-pub returns-in-Word : goal.returns-in-Word
-returns-in-Word c = record { answer = search value_found; recalls = search rules }
+pub returns-in-Some : goal.returns-in-Some
+returns-in-Some c = record { answer = search value_found; recalls = search rules }
 
 pub returns : goal.returns
 returns c = record { answer = search rules; recalls = search recalls_put }

@@ -6,7 +6,7 @@ use Rattle.schedule.proofs.DrawLaws.{byte_state}
 use Rattle.schedule.proofs.drawn_state.Goals as goal
 
 pub state-requires : goal.state-requires
-state-requires c = record { filed = search rules; t_lt_weeks = (search place_week, search place_unit) }
+state-requires c = (search place_week, search place_unit)
 
 pub returns : goal.returns
 returns c = search byte_state
