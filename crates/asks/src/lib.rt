@@ -90,7 +90,7 @@ fn scratch_wanted(u: usize) -> usize
 
 // Lent memory for some asks: the table, the answers, the scratch.
 fn memory_verdict(file: &File, asks: usize, table: usize, answers: usize, scratch: usize) -> Result<(), Refusal>
-    requires asks_bound { asks ≤ 32 }
+    requires { asks ≤ 32 }
     ensures { verdict_of result ≡ memory_verdict (problem file.now) asks table answers scratch }
 {
     if table < 64 {

@@ -120,7 +120,7 @@ fn weight(on: Euro, off: Euro, number: u64) -> u64
 
 // What each unit adds to the score of a run of week t, 0 past the last.
 fn weights(file: &File, t: usize) -> [u64; 16]
-    requires t_lt_weeks { t < file.now.layout.weeks }
+    requires { t < file.now.layout.weeks }
     ensures { Column file.now.layout.units (weight_of (problem file.now) t) result × Weights result }
 {
     let units = file.layout.units;
@@ -139,7 +139,7 @@ fn weights(file: &File, t: usize) -> [u64; 16]
 
 // The thrifty units found so far, and unit i where it is one: not out, and cheaper running than OFF.
 fn thrifty_with(file: &File, t: usize, out: u32, i: usize, found: u32) -> u32
-    requires t_lt_weeks { (t < file.now.layout.weeks) × (i < file.now.layout.units) }
+    requires { (t < file.now.layout.weeks) × (i < file.now.layout.units) }
     ensures { (j : ℕ) → has result j ≡ (has found j || thrifty_at (problem file.now) t (has out) j i) }
 {
     if sets::has(out, i) {
@@ -155,7 +155,7 @@ fn thrifty_with(file: &File, t: usize, out: u32, i: usize, found: u32) -> u32
 
 // The units that cost less running than OFF, of those not out (D88).
 fn thrifty_run(file: &File, t: usize, out: u32) -> u32
-    requires t_lt_weeks { t < file.now.layout.weeks }
+    requires { t < file.now.layout.weeks }
     ensures { ThriftyRun (problem file.now) t (has out) result }
 {
     // Without OFF costs nothing is cheaper than OFF.
@@ -172,7 +172,7 @@ fn thrifty_run(file: &File, t: usize, out: u32) -> u32
 
 // What unit i costs in week t where it is not out.
 fn line_cost(file: &File, t: usize, run: u32, i: usize) -> Euro
-    requires t_lt_weeks { (t < file.now.layout.weeks) × (i < file.now.layout.units) }
+    requires { (t < file.now.layout.weeks) × (i < file.now.layout.units) }
     ensures { (result.0 ≡ line_cost (problem file.now) t run i) × (result.0 ≤ 250000) }
 {
     if sets::has(run, i) {
@@ -183,7 +183,7 @@ fn line_cost(file: &File, t: usize, run: u32, i: usize) -> Euro
 
 // What a run costs in week t with all other units OFF.
 fn full_cost(file: &File, t: usize, run: u32) -> Euro
-    requires t_lt_weeks { t < file.now.layout.weeks }
+    requires { t < file.now.layout.weeks }
     ensures { (result.0 ≡ full_cost (problem file.now) t run) × (result.0 ≤ 4000000) }
 {
     let units = file.layout.units;
@@ -196,7 +196,7 @@ fn full_cost(file: &File, t: usize, run: u32) -> Euro
 
 // What is still needed in week t when a run is on.
 fn still_needed(file: &File, t: usize, run: u32) -> Kilo
-    requires t_lt_weeks { t < file.now.layout.weeks }
+    requires { t < file.now.layout.weeks }
     ensures { result.0 ≡ (problem file.now).demand t - output (problem file.now) t (has run) }
 {
     let need = file.demand(t);
@@ -224,7 +224,7 @@ fn least_weight(file: &File, t: usize, out: u32, thrifty: u32) -> u64
 
 // The least score of a run of week t with these units out (D89).
 fn least_score(file: &File, t: usize, out: u32) -> u64
-    requires t_lt_weeks { t < file.now.layout.weeks }
+    requires { t < file.now.layout.weeks }
     ensures { LeastScore (problem file.now) t (has out) result }
 {
     let thrifty = thrifty_run(file, t, out);
@@ -241,7 +241,7 @@ fn least_score(file: &File, t: usize, out: u32) -> u64
 
 // The cheapest run of week t with these units out; of equals the one with the smallest number (D47). None where the others fall short even together.
 pub fn cheapest(file: &File, t: usize, out: u32) -> Option<BestRun>
-    requires t_lt_weeks { t < file.now.layout.weeks }
+    requires { t < file.now.layout.weeks }
     ensures { Answers (problem file.now) t (has out) result }
 {
     let score = least_score(file, t, out);
@@ -258,7 +258,7 @@ pub fn cheapest(file: &File, t: usize, out: u32) -> Option<BestRun>
 // What the cheapest run costs with OFF charged to the units out too, NO_RUN where there is none: UNCOVERED stands for the score then, and the
 // same division tells both.
 pub fn full_least(file: &File, t: usize, out: u32) -> Euro
-    requires t_lt_weeks { t < file.now.layout.weeks }
+    requires { t < file.now.layout.weeks }
     ensures { (result.0 ≡ full_least (problem file.now) t (has out)) × (result.0 ≤ NO_RUN) }
 {
     cost_in(least_score(file, t, out))

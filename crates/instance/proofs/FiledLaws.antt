@@ -11,6 +11,7 @@ use Rattle.model.specs.Verdict.{accepted}
 use Rattle.model.specs.Reading.{read_of}
 use Rattle.model.proofs.ReadingLaws.{layout_laid}
 use Rattle.model.proofs.FileLaws.{complete, ranged}
+use Rattle.instance.specs.declared.file.File.{File}
 use Rattle.instance.specs.Filed.{Filed}
 
 -- weeks and units are the layout's own numbers
@@ -52,6 +53,10 @@ module _ (ws : List ℕ) (e : read_of ws ≡ accepted) where
 -- the file was accepted, and l was computed from it
 pub filed : (ws : List ℕ) (l : Layout) → read_of ws ≡ accepted → l ≡ layout_of ws → Filed ws l
 filed ws l e laid = subst⁻¹ (Filed ws) laid (filed_laid ws e)
+
+-- the file of accepted words, wherever they stand
+pub file_of : (ws : List ℕ) → read_of ws ≡ accepted → File
+file_of ws e = record { words = record { ref_ptr = (0, 0); now = ws }; layout = layout_of ws; filed = filed ws (layout_of ws) e refl }
 
 -- so a grid has as many cells
 pub cells_are : (ws : List ℕ) (l : Layout) → Filed ws l → (problem_of ws).weeks * (problem_of ws).units ≡ l.weeks * l.units

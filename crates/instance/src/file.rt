@@ -45,7 +45,7 @@ impl<'a> File<'a> {
 
     // D: what week t wants.
     pub fn demand(&self, t: usize) -> Kilo
-        requires t_lt_weeks { t < self.now.layout.weeks }
+        requires { t < self.now.layout.weeks }
         ensures { (result.0 ≡ (problem self.now).demand t) × (result.0 ≤ 16000000) }
     {
         Kilo(words::value_of(self.words[3 + t]) as u64)
@@ -53,7 +53,7 @@ impl<'a> File<'a> {
 
     // k: what unit i gives in week t; a file has one figure for all weeks, so t is not read.
     pub fn capacity(&self, t: usize, i: usize) -> Kilo
-        requires i_lt_units { i < self.now.layout.units }
+        requires { i < self.now.layout.units }
         ensures { (result.0 ≡ (problem self.now).capacity t i) × (result.0 ≤ 1000000) }
     {
         let q = self.layout.triples + 3 * i;
@@ -62,7 +62,7 @@ impl<'a> File<'a> {
 
     // e: the earliest start of unit i, from 1.
     pub fn earliest(&self, i: usize) -> usize
-        requires i_lt_units { i < self.now.layout.units }
+        requires { i < self.now.layout.units }
         ensures { (result ≡ (problem self.now).earliest i) × (1 ≤ result) × (result ≤ self.now.layout.weeks) }
     {
         let q = self.layout.triples + 3 * i + 1;
@@ -71,7 +71,7 @@ impl<'a> File<'a> {
 
     // l: its latest start.
     pub fn latest(&self, i: usize) -> usize
-        requires i_lt_units { i < self.now.layout.units }
+        requires { i < self.now.layout.units }
         ensures { (result ≡ (problem self.now).latest i) × (1 ≤ result) × (result ≤ self.now.layout.weeks) }
     {
         let q = self.layout.triples + 3 * i + 1;
@@ -80,7 +80,7 @@ impl<'a> File<'a> {
 
     // d: the weeks that its overhaul takes.
     pub fn duration(&self, i: usize) -> usize
-        requires i_lt_units { i < self.now.layout.units }
+        requires { i < self.now.layout.units }
         ensures { (result ≡ (problem self.now).duration i) × (1 ≤ result) × (result ≤ self.now.layout.weeks) }
     {
         let q = self.layout.triples + 3 * i + 2;
@@ -89,7 +89,7 @@ impl<'a> File<'a> {
 
     // m: what maintaining unit i costs in week t.
     pub fn maint_cost(&self, t: usize, i: usize) -> Euro
-        requires t_lt_weeks { (t < self.now.layout.weeks) × (i < self.now.layout.units) }
+        requires { (t < self.now.layout.weeks) × (i < self.now.layout.units) }
         ensures { (result.0 ≡ (problem self.now).maint t i) × (result.0 ≤ 250000) }
     {
         let q = self.layout.maints + cell_place(self.layout, t, i);
@@ -98,7 +98,7 @@ impl<'a> File<'a> {
 
     // c: what running unit i costs in week t.
     pub fn running_cost(&self, t: usize, i: usize) -> Euro
-        requires t_lt_weeks { (t < self.now.layout.weeks) × (i < self.now.layout.units) }
+        requires { (t < self.now.layout.weeks) × (i < self.now.layout.units) }
         ensures { (result.0 ≡ (problem self.now).running t i) × (result.0 ≤ 250000) }
     {
         let q = self.layout.runnings + cell_place(self.layout, t, i);
@@ -107,7 +107,7 @@ impl<'a> File<'a> {
 
     // What keeping unit i warm costs where it is OFF in week t: 0 where the file has no OFF costs (D89).
     pub fn off_cost(&self, t: usize, i: usize) -> Euro
-        requires t_lt_weeks { (t < self.now.layout.weeks) × (i < self.now.layout.units) }
+        requires { (t < self.now.layout.weeks) × (i < self.now.layout.units) }
         ensures { (result.0 ≡ (problem self.now).off t i) × (result.0 ≤ 250000) }
     {
         if self.layout.pairs <= self.layout.offs {
@@ -119,7 +119,7 @@ impl<'a> File<'a> {
 
     // What unit i adds to the output of a run in week t.
     fn output_part(&self, t: usize, run: u32, i: usize) -> Kilo
-        requires i_lt_units { i < self.now.layout.units }
+        requires { i < self.now.layout.units }
         ensures { (result.0 ≡ only_in (has run) ((problem self.now).capacity t) i) × (result.0 ≤ 1000000) }
     {
         if sets::has(run, i) {
@@ -142,7 +142,7 @@ impl<'a> File<'a> {
 
     // What unit i would cost OFF in week t, where it is out.
     fn off_part(&self, t: usize, out: u32, i: usize) -> Euro
-        requires t_lt_weeks { (t < self.now.layout.weeks) × (i < self.now.layout.units) }
+        requires { (t < self.now.layout.weeks) × (i < self.now.layout.units) }
         ensures { (result.0 ≡ only_in (has out) ((problem self.now).off t) i) × (result.0 ≤ 250000) }
     {
         if sets::has(out, i) {
@@ -153,7 +153,7 @@ impl<'a> File<'a> {
 
     // What the units out would cost OFF in week t.
     pub fn off_sum(&self, t: usize, out: u32) -> Euro
-        requires t_lt_weeks { t < self.now.layout.weeks }
+        requires { t < self.now.layout.weeks }
         ensures { (result.0 ≡ off_cost (problem self.now) t (has out)) × (result.0 ≤ 4000000) }
     {
         let units = self.layout.units;
@@ -191,7 +191,7 @@ impl<'a> File<'a> {
 
     // The value of pair n's word: its lower unit times 32 and its higher unit, both from 1.
     fn pair_value(&self, n: usize) -> usize
-        requires n_bound { n < (problem self.now).pairs }
+        requires { n < (problem self.now).pairs }
         ensures { result ≡ value_at self.now.words.now (self.now.layout.pairs + n) }
     {
         let q = self.layout.pairs + n;
@@ -200,7 +200,7 @@ impl<'a> File<'a> {
 
     // The lower unit of pair n.
     pub fn pair_a(&self, n: usize) -> usize
-        requires n_bound { n < (problem self.now).pairs }
+        requires { n < (problem self.now).pairs }
         ensures { (result ≡ (problem self.now).pair_a n) × (result < self.now.layout.units) }
     {
         self.pair_value(n) / 32 - 1
@@ -208,7 +208,7 @@ impl<'a> File<'a> {
 
     // The higher unit of pair n.
     pub fn pair_b(&self, n: usize) -> usize
-        requires n_bound { n < (problem self.now).pairs }
+        requires { n < (problem self.now).pairs }
         ensures { (result ≡ (problem self.now).pair_b n) × (result < self.now.layout.units) }
     {
         self.pair_value(n) % 32 - 1
@@ -216,7 +216,7 @@ impl<'a> File<'a> {
 
     // What pair n adds to the partners of unit i found so far.
     fn partner_added(&self, i: usize, n: usize, found: u32) -> u32
-        requires n_bound { n < (problem self.now).pairs }
+        requires { n < (problem self.now).pairs }
         ensures { (j : ℕ) → has result j ≡ (has found j || joins (problem self.now) i j n) }
     {
         let a = self.pair_a(n);

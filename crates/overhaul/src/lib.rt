@@ -20,7 +20,7 @@ pub struct Starts {
 
 // The permitted starts of unit i.
 pub fn starts_of(file: &File, i: usize) -> Starts
-    requires i_lt_units { i < file.now.layout.units }
+    requires { i < file.now.layout.units }
     ensures ends { (result.first ≡ (problem file.now).earliest i) × (result.last ≡ last_start (problem file.now) i) }
     ensures range { StartRange (problem file.now) i result.first result.last × (1 ≤ result.first) × (result.last ≤ file.now.layout.weeks) }
 {
@@ -49,7 +49,7 @@ pub fn upkeep(file: &File, i: usize, start: usize) -> Euro
 
 // What unit i costs OFF in all weeks.
 pub fn off_weeks(file: &File, i: usize) -> Euro
-    requires i_lt_units { i < file.now.layout.units }
+    requires { i < file.now.layout.units }
     ensures { (result.0 ≡ off_weeks (problem file.now) i) × (result.0 ≤ 13000000) }
 {
     let weeks = file.layout.weeks;

@@ -1,13 +1,15 @@
 -- A whole run by its verdict: refused, or answered.
 -- Assumes nothing.
 use Prim.Native.Nat.{ℕ}
-use mathlib.Core.Path.{◌≡◌, refl}
+use mathlib.Core.Path.{◌≡◌, refl, subst}
 use mathlib.Core.List.{List}
 use lib.ListN.{length}
 use Rattle.model.specs.Words.{problem_of}
 use Rattle.model.specs.Verdict.{accepted, refused}
 use Rattle.model.specs.Refusal.{run_verdict}
 use Rattle.model.specs.Asks.{Answered, Ran}
+use Rattle.instance.specs.declared.file.File.{File}
+use Rattle.instance.specs.File.{problem}
 
 module _ (ws asks answers table scratch : List ℕ) where
   -- refused: every lent word is as it was

@@ -21,7 +21,7 @@ use Rattle.model.specs.Reading.{read_of}
 use Rattle.model.proofs.CommitmentLaws.{cheapest_right}
 use Rattle.model.proofs.DomainLaws.{permits_to}
 use Rattle.model.proofs.FileLaws.{ranged}
-use Rattle.instance.proofs.FiledLaws.{filed}
+use Rattle.instance.proofs.FiledLaws.{filed, file_of}
 use Rattle.sets.specs.Sets.{SETS}
 use Rattle.commitment.proofs.ScoreLaws.{served_small}
 use Rattle.quotes.specs.Quotes.{Quoted, none, quoted, refused_quote, among, pick_quote, run_quote, start_quote, upkeep_quote}
@@ -46,7 +46,7 @@ module _ (ws : List ℕ) (e : read_of ws ≡ accepted) where
   week_bounded t out h (picked r) s =
       let few : (problem_of ws).units ≤ 16 = (ranged ws e).units_most in
       let m : 2 ^ (problem_of ws).units ≤ 2 ^ 16 = pow_mono few in
-      (omega (arith, s.serves.run.units), omega (arith, served_small ws (layout_of ws) t (has out) (filed ws (layout_of ws) e refl) h r s.serves))
+      (omega (arith, s.serves.run.units), omega (arith, served_small (file_of ws e) t (has out) h r s.serves))
 
   -- the quote for a week of an accepted file
   pub run_bounded : (week out : ℕ) → Bounded (run_quote (problem_of ws) week out)

@@ -34,11 +34,13 @@ fn filed_run(file: &File, week: usize, out: u32) -> Option<Quote>
     if file.layout.weeks < week {
         return None;
     }
-    let run = commitment::cheapest(file, week - 1, out)?;
-    Some(Quote {
-        number: run.number,
-        cost: run.cost.0 as u32,
-    })
+    match commitment::cheapest(file, week - 1, out) {
+        None => None,
+        Some(run) => Some(Quote {
+            number: run.number,
+            cost: run.cost.0 as u32,
+        }),
+    }
 }
 
 // The cheapest run of a week with these units out: its number and its cost; or the file's refusal.
@@ -51,7 +53,7 @@ pub fn cheapest_run(words: &[u32], week: usize, out: u32) -> Result<Option<Quote
 
 // What the overhaul of unit i, from 0, costs from a start.
 fn start_quote(file: &File, i: usize, start: usize) -> Option<Quote>
-    requires i_lt_units { i < file.now.layout.units }
+    requires { i < file.now.layout.units }
     ensures { quote_of result ≡ start_quote (problem file.now) i start }
 {
     let starts = overhaul::starts_of(file, i);
@@ -91,7 +93,7 @@ pub fn upkeep(words: &[u32], unit: usize, start: usize) -> Result<Option<Quote>,
 
 // The cost that a query asks for: a week times SETS and the units out.
 fn query_cost(file: &File, query: u32, scratch: &mut [u32]) -> u32
-    requires right { Right (problem file.now) scratch.old }
+    requires { Right (problem file.now) scratch.old }
     ensures answer { result ≡ query_cost (problem file.now) query }
     ensures kept { Right (problem file.now) scratch.new }
 {

@@ -24,7 +24,7 @@ fn number_at(list: &[u32], k: usize) -> u32
 // Whether week t lies in the overhaul of unit i.
 #[tactic(auto, using(sums::proofs::Tests::tests), unfolding(model::specs::Schedule::in_span))]
 fn overhauled(file: &File, starts: &[u32], t: usize, i: usize) -> bool
-    requires t_lt_weeks { (t < file.now.layout.weeks) × (i < file.now.layout.units) }
+    requires { (t < file.now.layout.weeks) × (i < file.now.layout.units) }
     ensures { result ≡ in_span (get_or starts.now i 0) ((problem file.now).duration i) t }
 {
     let start = words::widen(number_at(starts, i));
@@ -34,7 +34,7 @@ fn overhauled(file: &File, starts: &[u32], t: usize, i: usize) -> bool
 
 // The state of unit i in week t.
 fn state(file: &File, starts: &[u32], runs: &[u32], t: usize, i: usize) -> u8
-    requires t_lt_weeks { (t < file.now.layout.weeks) × (i < file.now.layout.units) }
+    requires { (t < file.now.layout.weeks) × (i < file.now.layout.units) }
     ensures { result ≡ lay_out (problem file.now) (schedule_of starts.now runs.now) t i }
 {
     if overhauled(file, starts, t, i) {
@@ -48,7 +48,7 @@ fn state(file: &File, starts: &[u32], runs: &[u32], t: usize, i: usize) -> u8
 
 // The state that byte q of the grid tells.
 fn drawn_state(file: &File, starts: &[u32], runs: &[u32], q: usize) -> u8
-    requires q_bound { q < file.now.layout.weeks * file.now.layout.units }
+    requires { q < file.now.layout.weeks * file.now.layout.units }
     ensures { result ≡ state_at (problem file.now)
         (lay_out (problem file.now) (schedule_of starts.now runs.now)) q }
 {
@@ -57,7 +57,7 @@ fn drawn_state(file: &File, starts: &[u32], runs: &[u32], q: usize) -> u8
 
 // Writes the grid; the bytes beyond are kept.
 fn write(file: &File, starts: &[u32], runs: &[u32], grid: &mut [u8])
-    requires units_in_bounds { file.now.layout.weeks * file.now.layout.units ≤ length grid.old }
+    requires { file.now.layout.weeks * file.now.layout.units ≤ length grid.old }
     ensures { grid.new ≡
         drawn_into accepted (problem file.now) (schedule_of starts.now runs.now) grid.old }
 {

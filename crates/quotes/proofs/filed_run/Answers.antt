@@ -12,8 +12,8 @@ returns-then-file-week c = search run_beyond
 pub overflow_cast-result : goal.overflow_cast-result
 overflow_cast-result c = search run_fits
 
-pub returns-in-Nothing : goal.returns-in-Nothing
-returns-in-Nothing c = search run_none
+pub returns-in-None : goal.returns-in-None
+returns-in-None c = search run_none
 
-pub returns-in-Run : goal.returns-in-Run
-returns-in-Run c = search run_some
+pub returns-in-Some : goal.returns-in-Some
+returns-in-Some c = search run_some
