@@ -10,59 +10,61 @@ use lib.ListN.{length, get_or}
 use Rattle.sums.specs.Logic.{if}
 use Rattle.sums.specs.Sum.{sum_to}
 use Rattle.sums.proofs.LoopLaws.{sum_ended}
-use Rattle.model.specs.declared.Layout.{Layout}
 use Rattle.model.specs.Problem.{Problem}
-use Rattle.model.specs.Grid.{States, cell, is_on, is_maint}
+use Rattle.model.specs.Grid.{States, is_on, is_maint}
 use Rattle.model.specs.Rules.{charge, week_cost, cost9}
-use Rattle.model.specs.Words.{value_of, problem_of}
-use Rattle.instance.specs.Filed.{Filed}
+use Rattle.model.specs.Words.{value_of}
+use Rattle.instance.specs.declared.file.File.{File}
+use Rattle.instance.specs.File.{problem}
 use Rattle.instance.specs.Tables.{maints_of, runnings_of, table_for, row_of}
 use Rattle.instance.proofs.TableLaws.{row_length, maints_rows, runnings_rows, maint_entry, running_entry}
+use Rattle.rules.specs.declared.grid.Grid.{Grid}
+use Rattle.rules.specs.Gridded.{states}
 use Rattle.checker.specs.Stated.{Stated}
 
 -- ---- a cell
 
 -- a row of the two tables as the code has them
-pub row_named : (ws maints runnings row : List ℕ) (l : Layout) (t s : ℕ) → maints ≡ maints_of l ws → runnings ≡ runnings_of l ws
-    → row ≡ row_of l.units t (table_for s maints runnings) → row ≡ row_of l.units t (table_for s (maints_of l ws) (runnings_of l ws))
-row_named ws maints runnings row l t s m r e = rw (m, r) at e
+pub row_named : (file : File) (maints runnings row : List ℕ) (t s : ℕ) → maints ≡ maints_of file.layout file.words.now → runnings ≡ runnings_of file.layout file.words.now
+    → row ≡ row_of file.layout.units t (table_for s maints runnings) → row ≡ row_of file.layout.units t (table_for s (maints_of file.layout file.words.now) (runnings_of file.layout file.words.now))
+row_named file maints runnings row t s m r e = rw (m, r) at e
 
-module _ (ws : List ℕ) (l : Layout) (t i : ℕ) (f : Filed ws l) (ht : t < l.weeks) (hi : i < l.units) where
+module _ (file : File) (t i : ℕ) (ht : t < file.layout.weeks) (hi : i < file.layout.units) where
   abbrev named : ℕ → List ℕ
-  named s = row_of l.units t (table_for s (maints_of l ws) (runnings_of l ws))
+  named s = row_of file.layout.units t (table_for s (maints_of file.layout file.words.now) (runnings_of file.layout file.words.now))
 
   -- the row that a state names has an entry for each unit
-  pub row_reaches : (row : List ℕ) (s : ℕ) → row ≡ row_of l.units t (table_for s (maints_of l ws) (runnings_of l ws)) → i < length row
+  pub row_reaches : (row : List ℕ) (s : ℕ) → row ≡ row_of file.layout.units t (table_for s (maints_of file.layout file.words.now) (runnings_of file.layout file.words.now)) → i < length row
   unfolding table_for
   row_reaches row s e = rw e (go (eqb s 2))
     where
-      go : (b : Bool) → i < length (row_of l.units t (if b (maints_of l ws) (runnings_of l ws)))
-      go true = rw (row_length l.units t (maints_of l ws) (maints_rows ws l f (maints_of l ws) t refl ht)) hi
-      go false = rw (row_length l.units t (runnings_of l ws) (runnings_rows ws l f (runnings_of l ws) t refl ht)) hi
+      go : (b : Bool) → i < length (row_of file.layout.units t (if b (maints_of file.layout file.words.now) (runnings_of file.layout file.words.now)))
+      go true = rw (row_length file.layout.units t (maints_of file.layout file.words.now) (maints_rows file.words.now file.layout file.filed (maints_of file.layout file.words.now) t refl ht)) hi
+      go false = rw (row_length file.layout.units t (runnings_of file.layout file.words.now) (runnings_rows file.words.now file.layout file.filed (runnings_of file.layout file.words.now) t refl ht)) hi
 
   -- the entry is the cost of a unit in that state
   entry_costs : (s : ℕ) → (s ≡ 0 → ⊥) → s ≤ 2
-      → value_of (get_or (named s) i 0) ≡ if (eqb s 2) ((problem_of ws).maint t i) (if (eqb s 1) ((problem_of ws).running t i) ((problem_of ws).off t i))
+      → value_of (get_or (named s) i 0) ≡ if (eqb s 2) ((problem file).maint t i) (if (eqb s 1) ((problem file).running t i) ((problem file).off t i))
   unfolding table_for
   entry_costs zero n h = absurd (n refl)
-  entry_costs (suc zero) n h = running_entry ws l f t i ht hi
-  entry_costs (suc (suc zero)) n h = maint_entry ws l f t i ht hi
+  entry_costs (suc zero) n h = running_entry file.words.now file.layout file.filed t i ht hi
+  entry_costs (suc (suc zero)) n h = maint_entry file.words.now file.layout file.filed t i ht hi
   entry_costs (suc (suc (suc s))) n h = absurd (omega arith)
 
-module _ (ws g : List ℕ) (l : Layout) (t i s : ℕ) (same : s ≡ cell l.units g t i) where
+module _ (g : Grid) (t i s : ℕ) (same : s ≡ states g t i) where
   -- OFF costs what the file says of it
-  pub off_costs : (r : ℕ) → s ≡ 0 → r ≡ (problem_of ws).off t i → r ≡ charge (problem_of ws) (cell l.units g) t i
+  pub off_costs : (r : ℕ) → s ≡ 0 → r ≡ (problem g.file).off t i → r ≡ charge (problem g.file) (states g) t i
   unfolding charge is_maint is_on
   off_costs r e is = rw (← same, e) is
 
   -- any other state what its row says
-  pub state_costs : (row : List ℕ) (r : ℕ) → Stated ws g l → t < l.weeks → i < l.units → (s ≡ 0 → ⊥)
-      → row ≡ row_of l.units t (table_for s (maints_of l ws) (runnings_of l ws)) → r ≡ value_of (get_or row i 0)
-      → r ≡ charge (problem_of ws) (cell l.units g) t i
+  pub state_costs : (row : List ℕ) (r : ℕ) → Stated g → t < g.file.layout.weeks → i < g.file.layout.units → (s ≡ 0 → ⊥)
+      → row ≡ row_of g.file.layout.units t (table_for s (maints_of g.file.layout g.file.words.now) (runnings_of g.file.layout g.file.words.now))
+      → r ≡ value_of (get_or row i 0) → r ≡ charge (problem g.file) (states g) t i
   unfolding charge is_maint is_on
   state_costs row r k ht hi n e is =
-      let few : s ≤ 2 = rw same (k.cells t i (rw k.grid.filed.weeks_are ht) (rw k.grid.filed.units_are hi)) in
-      is ∙ ap (λ (xs : List ℕ). value_of (get_or xs i 0)) e ∙ rw (← same) (entry_costs ws l t i k.grid.filed ht hi s n few)
+      let few : s ≤ 2 = rw same (k.cells t i (rw g.file.filed.weeks_are ht) (rw g.file.filed.units_are hi)) in
+      is ∙ ap (λ (xs : List ℕ). value_of (get_or xs i 0)) e ∙ rw (← same) (entry_costs g.file t i ht hi s n few)
 
 -- ---- the sums
 

@@ -6,7 +6,6 @@ use mathlib.Core.List.{List}
 use native.Mathlib.Omega.{arith}
 use lib.ListN.{length, get_or}
 use borrow.Author.Tests.{eq-eqb, ne_eqb, le-leb, lt-leb}
-use Rattle.model.specs.declared.Layout.{Layout}
 use Rattle.model.specs.Problem.{Problem}
 use Rattle.model.specs.Grid.{States, cell}
 use Rattle.model.specs.Rules.{broken, cost9}
@@ -16,8 +15,10 @@ use Rattle.model.specs.Reading.{read_of}
 use Rattle.model.specs.Refusal.{cell_fault, grid_verdict}
 use Rattle.model.specs.Judgement.{Judgement, sound_at, breaks, refused_grid, judgement, judge_of}
 use Rattle.model.proofs.VerdictLaws.{Onward, onward_fault, onward_next, accepted_cells}
-use Rattle.instance.specs.Filed.{Filed}
+use Rattle.instance.specs.declared.file.File.{File}
+use Rattle.instance.specs.File.{problem}
 use Rattle.instance.proofs.FiledLaws.{filed, cells_are}
+use Rattle.rules.specs.declared.grid.Grid.{Grid}
 use Rattle.checker.specs.Stated.{Stated}
 
 -- ---- 12, at the first byte above 2
@@ -35,16 +36,19 @@ module _ (g : List ℕ) (q : ℕ) (on : Onward (cell_fault g) (length g) q) (h :
 
 -- ---- 11, then 12
 
-module _ (ws g : List ℕ) (l : Layout) (f : Filed ws l) where
+module _ (file : File) (g : List ℕ) where
   -- a byte too few or too many
-  pub length_fault : (length g ≡ l.weeks * l.units → ⊥) → refused 11 0 ≡ grid_verdict (problem_of ws) g
+  pub length_fault : (length g ≡ file.layout.weeks * file.layout.units → ⊥) → refused 11 0 ≡ grid_verdict (problem file) g
   unfolding grid_verdict
-  length_fault n = simp (cells_are ws l f, ne_eqb (length g) (l.weeks * l.units) n)
+  length_fault n =
+      simp (cells_are file.words.now file.layout file.filed, ne_eqb (length g) (file.layout.weeks * file.layout.units) n)
 
   -- the bytes decide
-  pub length_right : (v : Verdict) → length g ≡ l.weeks * l.units → v ≡ first_fault (cell_fault g) 0 (length g) → v ≡ grid_verdict (problem_of ws) g
+  pub length_right : (v : Verdict) → length g ≡ file.layout.weeks * file.layout.units → v ≡ first_fault (cell_fault g) 0 (length g)
+      → v ≡ grid_verdict (problem file) g
   unfolding grid_verdict
-  length_right v e said = said ∙ simp (cells_are ws l f, eq-eqb (length g) (l.weeks * l.units) e)
+  length_right v e said =
+      said ∙ simp (cells_are file.words.now file.layout file.filed, eq-eqb (length g) (file.layout.weeks * file.layout.units) e)
 
 -- ---- the judgement on cells
 
@@ -61,37 +65,27 @@ module _ (p : Problem) (x : States) (rule : ℕ) (is : rule ≡ broken p x) wher
 
 -- ---- the whole call
 
-module _ (ws g : List ℕ) where
-  -- the file is refused
-  pub file_refused : (number place : ℕ) → refused number place ≡ read_of ws → refused_grid number place ≡ judge_of ws g
+-- the file is refused
+pub file_refused : (ws g : List ℕ) (number place : ℕ) → refused number place ≡ read_of ws → refused_grid number place ≡ judge_of ws g
+unfolding judge_of and_then
+file_refused ws g number place q = rw (← q)
+
+-- the grid of an accepted file is refused
+pub grid_refused : (file : File) (g : List ℕ) (number place : ℕ) → refused number place ≡ grid_verdict (problem file) g
+    → refused_grid number place ≡ judge_of file.words.now g
+unfolding judge_of and_then
+grid_refused file g number place q = rw (file.filed.passed, ← q)
+
+module _ (file : File) (g : List ℕ) (passes : accepted ≡ grid_verdict (problem file) g) where
+  -- it has a byte for each week and unit
+  pub grid_full : length g ≡ file.layout.weeks * file.layout.units
+  grid_full = (accepted_cells (problem file) g (sym passes)).0 ∙ cells_are file.words.now file.layout file.filed
+
+  -- each byte is one of the three states
+  pub stated : (grid : Grid) → grid.file ≡ file → grid.cells.now ≡ g → Stated grid
+  stated grid e h = record { cells = rw (e, h, ← file.filed.units_are) (accepted_cells (problem file) g (sym passes)).1 }
+
+  -- and the judgement on them is the answer
+  pub grid_judged : (j : Judgement) → j ≡ judgement (problem file) (cell file.layout.units g) → j ≡ judge_of file.words.now g
   unfolding judge_of and_then
-  file_refused number place q = rw (← q)
-
-  module _ (file : accepted ≡ read_of ws) where
-    -- or accepted
-    pub file_accepted : (l : Layout) → l ≡ layout_of ws → Filed ws l
-    file_accepted l laid = filed ws l (sym file) laid
-
-    -- the grid is refused
-    pub grid_refused : (number place : ℕ) → refused number place ≡ grid_verdict (problem_of ws) g → refused_grid number place ≡ judge_of ws g
-    unfolding judge_of and_then
-    grid_refused number place q = rw (← file, ← q)
-
-    module _ (l : Layout) (laid : l ≡ layout_of ws) (passes : accepted ≡ grid_verdict (problem_of ws) g) where
-      -- or has one of the three states for each week and unit
-      pub stated : Stated ws g l
-      stated =
-          let f = file_accepted l laid in
-          let cells = accepted_cells (problem_of ws) g (sym passes) in
-          record {
-            grid = record {
-              filed = f;
-              full = cells.0 ∙ cells_are ws l f;
-            };
-            cells = rw (← f.units_are) cells.1;
-          }
-
-      -- and the judgement on its cells is the answer
-      pub grid_judged : (j : Judgement) → j ≡ judgement (problem_of ws) (cell l.units g) → j ≡ judge_of ws g
-      unfolding judge_of and_then
-      grid_judged j is = is ∙ rw (← file, ← passes, (file_accepted l laid).units_are)
+  grid_judged j is = is ∙ rw (file.filed.passed, ← passes, file.filed.units_are)

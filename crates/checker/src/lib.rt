@@ -2,22 +2,22 @@
 #![tactic(auto)]
 
 ghost use Rattle.std.specs.Prelude.{◌<◌, ◌≤◌, ◌≡◌, length};
-ghost use Rattle.model.specs.Words.{VALUES, problem_of};
-ghost use Rattle.model.specs.Grid.{cell};
+ghost use Rattle.model.specs.Words.{VALUES};
 ghost use Rattle.model.specs.Rules.{charge, week_cost, cost9};
 ghost use Rattle.model.specs.Verdict.{first_fault};
 ghost use Rattle.model.specs.Refusal.{cell_fault, grid_verdict};
 ghost use Rattle.model.specs.Judgement.{judgement, judge_of, judge_bytes, judge_input};
 ghost use Rattle.model.specs.Lines.{judgement_text, Written};
-ghost use Rattle.instance.specs.Filed.{Filed};
+ghost use Rattle.instance.specs.File.{problem};
 ghost use Rattle.instance.specs.Tables.{maints_of, runnings_of, table_for, row_of};
 ghost use Rattle.decoder.specs.Answers.{verdict_of};
 ghost use Rattle.checker.specs.Answers.{judged_of, judgement_of};
+ghost use Rattle.rules.specs.Gridded.{states};
 ghost use Rattle.checker.specs.Stated.{Stated};
 
 use decoder::{Fault, Refusal};
-use instance::Euro;
-use model::Layout;
+use instance::{Euro, File};
+use rules::Grid;
 
 // A grid is sound at a cost, or breaks a formula.
 #[derive(Clone, Copy, Debug, PartialEq, Eq)]
@@ -29,51 +29,53 @@ pub enum Judgement {
 // ---- formula (9)
 
 // Week t's row of the table of costs that a state names, MAINT or ON.
-fn row_for<'a>(words: &'a [u32], l: Layout, t: usize, state: u8) -> &'a [u32]
-    requires filed { Filed words.now l }
-    requires t_lt_weeks { t < l.weeks }
-    ensures { result.now ≡ row_of l.units t (table_for state (maints_of l words.now) (runnings_of l words.now)) }
+fn row_for<'a>(file: &'a File<'a>, t: usize, state: u8) -> &'a [u32]
+    requires { t < file.now.layout.weeks }
+    ensures { result.now ≡ row_of file.now.layout.units t (table_for state (maints_of file.now.layout file.now.words.now)
+        (runnings_of file.now.layout file.now.words.now)) }
 {
-    let maints = instance::maint_table(words, l);
-    let runnings = instance::running_table(words, l);
-    instance::cost_row(maints, runnings, l.units, t, state)
+    instance::cost_row(
+        file.maint_table(),
+        file.running_table(),
+        file.layout.units,
+        t,
+        state,
+    )
 }
 
 // What unit i costs in week t: OFF its own figure, since a file may have no table of OFF costs, any other state what its row says.
-fn cell_cost(words: &[u32], grid: &[u8], l: Layout, t: usize, i: usize) -> Euro
-    requires stated { Stated words.now grid.now l }
-    requires t_lt_weeks { (t < l.weeks) × (i < l.units) }
-    ensures { (result.0 ≡ charge (problem_of words.now) (cell l.units grid.now) t i) × (result.0 < VALUES) }
+fn cell_cost(grid: &Grid, t: usize, i: usize) -> Euro
+    requires { Stated grid.now × (t < grid.now.file.layout.weeks) × (i < grid.now.file.layout.units) }
+    ensures { (result.0 ≡ charge (problem grid.now.file) (states grid.now) t i) × (result.0 < VALUES) }
 {
-    let state = rules::state(grid, l, t, i);
+    let state = grid.state(t, i);
     if state == 0 {
-        return instance::off_cost(words, l, t, i);
+        return grid.file.off_cost(t, i);
     }
-    let row = row_for(words, l, t, state);
+    let row = row_for(&grid.file, t, state);
     Euro(words::value_of(row[i]) as u64)
 }
 
 // What all units cost in week t.
-fn week_cost(words: &[u32], grid: &[u8], l: Layout, t: usize) -> Euro
-    requires stated { Stated words.now grid.now l }
-    requires t_lt_weeks { t < l.weeks }
-    ensures { (result.0 ≡ week_cost (problem_of words.now) (cell l.units grid.now) t) × (result.0 ≤ 4294967296) }
+fn week_cost(grid: &Grid, t: usize) -> Euro
+    requires { Stated grid.now × (t < grid.now.file.layout.weeks) }
+    ensures { (result.0 ≡ week_cost (problem grid.now.file) (states grid.now) t) × (result.0 ≤ 4294967296) }
 {
     let mut sum = Euro(0);
-    for i in 0..l.units {
-        sum = sum.plus(cell_cost(words, grid, l, t, i));
+    for i in 0..grid.file.layout.units {
+        sum += cell_cost(grid, t, i);
     }
     sum
 }
 
 // What the grid costs, formula (9).
-fn grid_cost(words: &[u32], grid: &[u8], l: Layout) -> Euro
-    requires { Stated words.now grid.now l }
-    ensures { result.0 ≡ cost9 (problem_of words.now) (cell l.units grid.now) }
+fn grid_cost(grid: &Grid) -> Euro
+    requires { Stated grid.now }
+    ensures { result.0 ≡ cost9 (problem grid.now.file) (states grid.now) }
 {
     let mut sum = Euro(0);
-    for t in 0..l.weeks {
-        sum = sum.plus(week_cost(words, grid, l, t));
+    for t in 0..grid.file.layout.weeks {
+        sum += week_cost(grid, t);
     }
     sum
 }
@@ -94,11 +96,10 @@ fn cells_verdict(grid: &[u8]) -> Result<(), Refusal>
 }
 
 // A byte for each week and unit, then the bytes one by one.
-fn grid_verdict(words: &[u32], grid: &[u8], l: Layout) -> Result<(), Refusal>
-    requires { Filed words.now l }
-    ensures { verdict_of result ≡ grid_verdict (problem_of words.now) grid.now }
+fn grid_verdict(file: &File, grid: &[u8]) -> Result<(), Refusal>
+    ensures { verdict_of result ≡ grid_verdict (problem file.now) grid.now }
 {
-    if grid.len() != l.weeks * l.units {
+    if grid.len() != file.layout.weeks * file.layout.units {
         return Err(Fault::GridSize.at(0));
     }
     cells_verdict(grid)
@@ -107,15 +108,15 @@ fn grid_verdict(words: &[u32], grid: &[u8], l: Layout) -> Result<(), Refusal>
 // ---- the judge
 
 // The judgement on a grid of the three states: the smallest broken number, or the cost.
-fn judge_cells(words: &[u32], grid: &[u8], l: Layout) -> Judgement
-    requires { Stated words.now grid.now l }
-    ensures { judged_of result ≡ judgement (problem_of words.now) (cell l.units grid.now) }
+fn judge_cells(grid: &Grid) -> Judgement
+    requires { Stated grid.now }
+    ensures { judged_of result ≡ judgement (problem grid.now.file) (states grid.now) }
 {
-    let rule = rules::broken(words, grid, l);
+    let rule = rules::broken(grid);
     if rule != 0 {
         return Judgement::Breaks(rule);
     }
-    Judgement::Sound(grid_cost(words, grid, l).0)
+    Judgement::Sound(grid_cost(grid).0)
 }
 
 // The judgement on any words as a plan file and any bytes as a grid.
@@ -123,9 +124,9 @@ pub fn judge(words: &[u32], grid: &[u8]) -> Result<Judgement, Refusal>
     ensures { judgement_of result ≡ judge_of words.now grid.now }
 {
     decoder::read(words)?;
-    let l = instance::layout_of(words);
-    grid_verdict(words, grid, l)?;
-    Ok(judge_cells(words, grid, l))
+    let file = File::new(words);
+    grid_verdict(&file, grid)?;
+    Ok(judge_cells(&Grid { file, cells: grid }))
 }
 
 // ---- the judge's program

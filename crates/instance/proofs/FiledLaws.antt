@@ -55,7 +55,7 @@ pub filed : (ws : List ℕ) (l : Layout) → read_of ws ≡ accepted → l ≡ l
 filed ws l e laid = subst⁻¹ (Filed ws) laid (filed_laid ws e)
 
 -- the file of accepted words, wherever they stand
-pub file_of : (ws : List ℕ) → read_of ws ≡ accepted → File
+abbrev pub file_of : (ws : List ℕ) → read_of ws ≡ accepted → File
 file_of ws e = record { words = record { ref_ptr = (0, 0); now = ws }; layout = layout_of ws; filed = filed ws (layout_of ws) e refl }
 
 -- so a grid has as many cells
