@@ -122,7 +122,14 @@ fn cost_above(file: &File, tables: &[u32; TABLES], i: usize, start: usize, least
 }
 
 // Puts what unit i costs from a permitted start above its least into a table that has its starts before.
-fn put_start(file: &File, tables: &[u32; TABLES], i: usize, start: usize, least: Euro, next: &mut [u32; TABLES])
+fn put_start(
+    file: &File,
+    tables: &[u32; TABLES],
+    i: usize,
+    start: usize,
+    least: Euro,
+    next: &mut [u32; TABLES],
+)
     requires { CostsTo file.now tables.now i least.0 start next.old × (permitted (problem file.now) i start ≡ true) × (start ≤ 52) }
     ensures { CostsTo file.now tables.now i least.0 (start + 1) next.new }
 {
@@ -156,7 +163,13 @@ fn put_all_costs(file: &File, tables: &[u32; TABLES], next: &mut [u32; TABLES])
 // ---- what weeks are worth with nobody out
 
 // Puts what week t is worth with nobody out into a table that has the weeks before it.
-fn put_root(file: &File, tables: &[u32; TABLES], t: usize, next: &mut [u32; TABLES], memo: &mut [u32])
+fn put_root(
+    file: &File,
+    tables: &[u32; TABLES],
+    t: usize,
+    next: &mut [u32; TABLES],
+    memo: &mut [u32],
+)
     requires { RootsMade file.now tables.now t next.old × (t < file.now.layout.weeks) × MemoTrue (problem file.now) (price_in tables.now) memo.old }
     ensures answer { RootsMade file.now tables.now (t + 1) next.new }
     ensures recalls { MemoTrue (problem file.now) (price_in tables.now) memo.new }
@@ -253,7 +266,15 @@ fn put_back(file: &File, tables: &[u32; TABLES], starts: [u8; 16], i: usize, val
 }
 
 // Drops unit i, one of those kept, where the bound still comes to what is wanted.
-fn drop_unit(file: &File, tables: &[u32; TABLES], starts: [u8; 16], i: usize, wanted: Euro, kept: BlameLeft, values: &mut [u32]) -> BlameLeft
+fn drop_unit(
+    file: &File,
+    tables: &[u32; TABLES],
+    starts: [u8; 16],
+    i: usize,
+    wanted: Euro,
+    kept: BlameLeft,
+    values: &mut [u32],
+) -> BlameLeft
     requires { Dropping file.now tables.now starts i wanted.0 kept values.old }
     ensures { Dropped (problem file.now) tables.now (entry starts) wanted.0 kept result values.new }
 {
@@ -269,7 +290,15 @@ fn drop_unit(file: &File, tables: &[u32; TABLES], starts: [u8; 16], i: usize, wa
 }
 
 // The same of any unit: one that is not kept cannot be dropped.
-fn try_drop(file: &File, tables: &[u32; TABLES], starts: [u8; 16], i: usize, wanted: Euro, kept: BlameLeft, values: &mut [u32]) -> BlameLeft
+fn try_drop(
+    file: &File,
+    tables: &[u32; TABLES],
+    starts: [u8; 16],
+    i: usize,
+    wanted: Euro,
+    kept: BlameLeft,
+    values: &mut [u32],
+) -> BlameLeft
     requires { MayDrop file.now tables.now starts i wanted.0 kept values.old }
     ensures { Dropped (problem file.now) tables.now (entry starts) wanted.0 kept result values.new }
 {
@@ -280,7 +309,13 @@ fn try_drop(file: &File, tables: &[u32; TABLES], starts: [u8; 16], i: usize, wan
 }
 
 // Drops units of those placed, the last first, where the bound still comes to what is wanted.
-fn shrink_blame(file: &File, tables: &[u32; TABLES], node: Node, wanted: Euro, values: &mut [u32]) -> BlameLeft
+fn shrink_blame(
+    file: &File,
+    tables: &[u32; TABLES],
+    node: Node,
+    wanted: Euro,
+    values: &mut [u32],
+) -> BlameLeft
     requires { Bounded file.now tables.now node values.old × (wanted.0 ≤ node.bound.0) × (wanted.0 ≤ MOST_WANTED) }
     ensures { Shrunk (problem file.now) tables.now (has node.placed) (entry node.starts) wanted.0 result }
 {
@@ -317,7 +352,13 @@ pub fn cost_below(tables: &[u32; TABLES], sum: Euro, limit: Euro) -> Euro
 
 // The units that are to blame, of those placed: where the bound of their starts comes to the limit, only those whose starts keep it there. What the
 // values of the weeks are afterwards is left open (D57).
-pub fn find_blame(file: &File, tables: &[u32; TABLES], node: Node, limit: Euro, values: &mut [u32]) -> u32
+pub fn find_blame(
+    file: &File,
+    tables: &[u32; TABLES],
+    node: Node,
+    limit: Euro,
+    values: &mut [u32],
+) -> u32
     requires { Bounded file.now tables.now node values.old × (limit.0 ≤ MOST_LIMIT) }
     ensures { Blamed (problem file.now) tables.now node limit.0 result }
 {

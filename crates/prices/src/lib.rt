@@ -12,8 +12,8 @@ ghost use Rattle.tables.specs.Tables.{First, Priced};
 ghost use Rattle.prices.specs.Ranges.{MOST_BOUND, MOST_PUSH, PricedFile, ProgressInRange, OneOf};
 ghost use Rattle.instance.specs.File.{problem};
 
-use instance::File;
 use effort::Work;
+use instance::File;
 pub use momentum::{LEVEL, PLACES, magnitude, push_at, update_momentum};
 use step::Progress;
 use tables::TABLES;
@@ -34,7 +34,15 @@ const REACH: u64 = 256;
 const LEAST_REACH: u64 = 8;
 
 // Runs a round: pushes, a step, and the bound at the new prices; no bound where units and weeks agree.
-fn run_round(file: &File, s: Progress, tables: &mut [u32; TABLES], push: &mut [u32; PLACES], wants: &mut Wants, work: &mut Work, memo: &mut [u32]) -> Option<u64>
+fn run_round(
+    file: &File,
+    s: Progress,
+    tables: &mut [u32; TABLES],
+    push: &mut [u32; PLACES],
+    wants: &mut Wants,
+    work: &mut Work,
+    memo: &mut [u32],
+) -> Option<u64>
     requires { PricedFile file.now tables.old × AtMost MOST_PUSH push.old × ProgressInRange s × Right (problem file.now) memo.old }
     ensures bound { IfSome result (λ root. root < MOST_BOUND) }
     ensures ranges { PricedFile file.now tables.new × AtMost MOST_PUSH push.new }
@@ -96,7 +104,14 @@ fn keep_or_restart(
 }
 
 // The prices of the best of the rounds, from a table at whose prices the bound and what units and weeks want are these; what the rounds needed is noted.
-fn ascend(file: &File, first: &[u32; TABLES], root: u64, wants: &mut Wants, work: &mut Work, memo: &mut [u32]) -> [u32; TABLES]
+fn ascend(
+    file: &File,
+    first: &[u32; TABLES],
+    root: u64,
+    wants: &mut Wants,
+    work: &mut Work,
+    memo: &mut [u32],
+) -> [u32; TABLES]
     requires { PricedFile file.now first.now × (root < MOST_BOUND) × Right (problem file.now) memo.old }
     ensures answer { Priced (problem file.now) result }
     ensures right { Right (problem file.now) memo.new × Others memo.old memo.new }

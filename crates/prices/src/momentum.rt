@@ -5,8 +5,8 @@ ghost use Rattle.sums.specs.Table.{AtMost};
 ghost use Rattle.model.specs.Schedule.{in_span};
 ghost use Rattle.prices.specs.Ranges.{PLACES, LEVEL, ROUND_PUSH, MOST_PUSH, MOST_SQUARE, MOST_NORM};
 
-use instance::File;
 use crate::wants::Wants;
+use instance::File;
 use model::Layout;
 
 // A push for each price: 52 weeks of 16 units.

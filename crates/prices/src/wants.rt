@@ -115,7 +115,13 @@ fn choose_starts(file: &File, tables: &[u32; TABLES], wants: &mut Wants) -> Opti
 // ---- weeks
 
 // The value of all weeks, if each has a run; the units that each wants out are written, and what it needed.
-fn choose_weeks(file: &File, tables: &[u32; TABLES], wants: &mut Wants, work: &mut Work, memo: &mut [u32]) -> Option<Euro>
+fn choose_weeks(
+    file: &File,
+    tables: &[u32; TABLES],
+    wants: &mut Wants,
+    work: &mut Work,
+    memo: &mut [u32],
+) -> Option<Euro>
     requires { PricedFile file.now tables.now × Right (problem file.now) memo.old }
     ensures answer { IfSome result (λ sum. sum.0 ≤ 52 * NO_RUN) }
     ensures right { Right (problem file.now) memo.new × Others memo.old memo.new }
@@ -139,7 +145,13 @@ fn choose_weeks(file: &File, tables: &[u32; TABLES], wants: &mut Wants, work: &m
 
 // What every schedule costs at least by these prices: overhauls and weeks, less all OFF costs and prices; nothing where a unit has no permitted start
 // or a week no run. What units and weeks want is written.
-pub fn solve_relaxation(file: &File, tables: &[u32; TABLES], wants: &mut Wants, work: &mut Work, memo: &mut [u32]) -> Option<Euro>
+pub fn solve_relaxation(
+    file: &File,
+    tables: &[u32; TABLES],
+    wants: &mut Wants,
+    work: &mut Work,
+    memo: &mut [u32],
+) -> Option<Euro>
     requires { PricedFile file.now tables.now × Right (problem file.now) memo.old }
     ensures bound { IfSome result (λ root. root.0 < MOST_BOUND) }
     ensures right { Right (problem file.now) memo.new × Others memo.old memo.new }

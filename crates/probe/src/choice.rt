@@ -47,8 +47,7 @@ fn with_needed(set: u32, i: usize, capacity: Kilo, spare: Kilo) -> u32
 }
 
 // The units whose capacity is more than what can be spared in week t.
-fn needed(file: &File, t: usize, spare: Kilo) -> u32
-{
+fn needed(file: &File, t: usize, spare: Kilo) -> u32 {
     let units = file.layout.units;
     let mut set = 0;
     for i in 0..units {
@@ -81,8 +80,7 @@ fn shut_units(file: &File, tables: &[u32; TABLES], t: usize, word: u64) -> u32
 }
 
 // The same for each week.
-fn shut_weeks(file: &File, tables: &[u32; TABLES], rows: &[u64; 52]) -> [u32; 52]
-{
+fn shut_weeks(file: &File, tables: &[u32; TABLES], rows: &[u64; 52]) -> [u32; 52] {
     let weeks = file.layout.weeks;
     let mut shut: [u32; 52] = [0; 52];
     for t in 0..weeks {
@@ -186,7 +184,15 @@ fn narrower(a: Narrow, b: Narrow) -> Narrow {
 }
 
 // The narrower of one and unit i, where unit i is not placed.
-fn consider(file: &File, tables: &[u32; TABLES], shut: &[u32; 52], placed: u32, i: usize, room: Euro, best: Narrow) -> Narrow
+fn consider(
+    file: &File,
+    tables: &[u32; TABLES],
+    shut: &[u32; 52],
+    placed: u32,
+    i: usize,
+    room: Euro,
+    best: Narrow,
+) -> Narrow
     requires { (i < file.now.layout.units) }
 {
     if sets::has(placed, i) {
@@ -208,8 +214,13 @@ fn consider(file: &File, tables: &[u32; TABLES], shut: &[u32; 52], placed: u32, 
 const NONE_OPEN: usize = 64;
 
 // Of the units not placed, rising, the one with the fewest open starts; the first that has none at once.
-fn narrowest(file: &File, tables: &[u32; TABLES], rows: &[u64; 52], placed: u32, room: Euro) -> usize
-{
+fn narrowest(
+    file: &File,
+    tables: &[u32; TABLES],
+    rows: &[u64; 52],
+    placed: u32,
+    room: Euro,
+) -> usize {
     let units = file.layout.units;
     let shut = shut_weeks(file, tables, rows);
     let mut best = Narrow {
@@ -256,7 +267,13 @@ fn free_or(units: usize, placed: u32, i: usize, other: usize) -> usize
 }
 
 // A unit that is not placed; as many as there are units where all are.
-pub fn choose(file: &File, tables: &[u32; TABLES], rows: &[u64; 52], placed: u32, room: Euro) -> usize
+pub fn choose(
+    file: &File,
+    tables: &[u32; TABLES],
+    rows: &[u64; 52],
+    placed: u32,
+    room: Euro,
+) -> usize
     ensures { Chosen file.now.layout.units placed result }
 {
     let units = file.layout.units;

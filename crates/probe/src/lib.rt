@@ -88,7 +88,15 @@ fn deeper(at: Visit, bound: Euro) -> Visit
 }
 
 // Judges the start of a unit, within the budget: where the probe goes on, or the units whose starts are a dead end.
-pub fn judge_start(file: &File, tables: &[u32; TABLES], rows: &[u64; 52], at: Visit, table: &[u32], values: &mut [u32], memo: &mut [u32]) -> Result<Visit, u32>
+pub fn judge_start(
+    file: &File,
+    tables: &[u32; TABLES],
+    rows: &[u64; 52],
+    at: Visit,
+    table: &[u32],
+    values: &mut [u32],
+    memo: &mut [u32],
+) -> Result<Visit, u32>
     requires { StartDue file.now tables.now rows.now values.old at table.now memo.old × (at.visit.state.tries < MOST_TRIES)
         × (at.visit.state.tries < at.visit.state.budget) }
     ensures { StartTaken file.now tables.now rows.now values.old at table.now memo.old
@@ -116,7 +124,14 @@ fn stop_at_plan(step: Step, limit: Euro, first: bool) -> Step
 }
 
 // Every unit has its start: what the plan costs, and who is to blame that no other with their starts costs less.
-fn weigh(file: &File, tables: &[u32; TABLES], rows: &[u64; 52], values: &[u32; 52], at: Visit, memo: &mut [u32]) -> Step
+fn weigh(
+    file: &File,
+    tables: &[u32; TABLES],
+    rows: &[u64; 52],
+    values: &[u32; 52],
+    at: Visit,
+    memo: &mut [u32],
+) -> Step
     requires { WeighDue file.now tables.now rows.now values.now at memo.old }
     ensures answer { Weighed (problem file.now) at.visit.node at.visit.state result }
     ensures recalls { MemoTrue (problem file.now) (price_in tables.now) memo.new }
@@ -134,7 +149,13 @@ fn next_unit(file: &File, tables: &[u32; TABLES], rows: &[u64; 52], at: Visit) -
 {
     let node = at.visit.node;
     let wanted = dual::wanted(tables, at.visit.state.limit);
-    choice::choose(file, tables, rows, node.placed, wanted.saturating_sub(node.bound))
+    choice::choose(
+        file,
+        tables,
+        rows,
+        node.placed,
+        wanted.saturating_sub(node.bound),
+    )
 }
 
 // The visit of a node with start v for a unit.
@@ -154,7 +175,15 @@ pub fn with_start(at: Visit, unit: usize, v: usize, st: State) -> Visit
 
 // Tries the start of the node's unit, and places another unit where it holds.
 #[cycle(place_try_start)]
-fn try_start(file: &File, tables: &[u32; TABLES], rows: &[u64; 52], values: &[u32; 52], at: Visit, table: &mut [u32], memo: &mut [u32]) -> Step
+fn try_start(
+    file: &File,
+    tables: &[u32; TABLES],
+    rows: &[u64; 52],
+    values: &[u32; 52],
+    at: Visit,
+    table: &mut [u32],
+    memo: &mut [u32],
+) -> Step
     requires { StartDue file.now tables.now rows.now values.now at table.old memo.old }
     ensures answer { StartDone (problem file.now) table.old table.new at result }
     ensures recalls { MemoTrue (problem file.now) (price_in tables.now) memo.new }
@@ -176,7 +205,15 @@ fn try_start(file: &File, tables: &[u32; TABLES], rows: &[u64; 52], values: &[u3
 
 // Tries the starts of a unit in turn, or weighs the plan where all units are placed. A dead end that the unit has no share in is handed up at once.
 #[cycle(place_try_start)]
-pub fn place(file: &File, tables: &[u32; TABLES], rows: &[u64; 52], values: &[u32; 52], at: Visit, table: &mut [u32], memo: &mut [u32]) -> Step
+pub fn place(
+    file: &File,
+    tables: &[u32; TABLES],
+    rows: &[u64; 52],
+    values: &[u32; 52],
+    at: Visit,
+    table: &mut [u32],
+    memo: &mut [u32],
+) -> Step
     requires { PlaceDue file.now tables.now rows.now values.now at table.old memo.old }
     ensures answer { PlaceDone (problem file.now) table.old table.new at.visit.node at.visit.state result }
     ensures recalls { MemoTrue (problem file.now) (price_in tables.now) memo.new }
@@ -198,7 +235,14 @@ pub fn place(file: &File, tables: &[u32; TABLES], rows: &[u64; 52], values: &[u3
         blame = shared;
         s = step.state;
     }
-    let noted = note_blame(table, s, at.visit.node.starts, file.layout.units, blame, at.order);
+    let noted = note_blame(
+        table,
+        s,
+        at.visit.node.starts,
+        file.layout.units,
+        blame,
+        at.order,
+    );
     state::dead_end(noted, blame)
 }
 
@@ -224,7 +268,13 @@ pub fn root_visit(bound: Euro, st: State, first: bool) -> Visit
 }
 
 // A probe from the root, under the state's limit and within its budget.
-pub fn from_root(file: &File, tables: &[u32; TABLES], st: State, table: &mut [u32], memo: &mut [u32]) -> Step
+pub fn from_root(
+    file: &File,
+    tables: &[u32; TABLES],
+    st: State,
+    table: &mut [u32],
+    memo: &mut [u32],
+) -> Step
     requires { ProbeDue file.now tables.now st table.old memo.old }
     ensures answer { RootDone (problem file.now) table.old table.new st result }
     ensures recalls { MemoTrue (problem file.now) (price_in tables.now) memo.new }

@@ -1,9 +1,9 @@
 use Rattle.std.proofs.Common.{refl, ◌∙◌, rules, arith}
-use Rattle.probe.proofs.CallLaws.{place_filed, place_small, place_leaf, place_weighed, place_fits, place_starts, place_long}
+use Rattle.probe.proofs.CallLaws.{place_small, place_leaf, place_weighed, place_fits, place_starts, place_long}
 use Rattle.probe.proofs.CallLaws.{starts_few, starts_small, starts_within, starts_try, starts_fall}
 use Rattle.probe.proofs.CallLaws.{starts_left, starts_next, starts_used, starts_most, starts_limit, starts_recalls, starts_done}
 use Rattle.probe.proofs.TryLaws.{try_recalls, try_long, try_stops}
-use Rattle.probe.proofs.TryLaws.{taken_filed, taken_dead_recalls, taken_rows, taken_fails, taken_places, taken_falls, taken_placed}
+use Rattle.probe.proofs.TryLaws.{taken_dead_recalls, taken_rows, taken_fails, taken_places, taken_falls, taken_placed}
 use Rattle.probe.proofs.+place_try_start.Goals as goal
 
 pub place-next_unit-unit-requires : goal.place-next_unit-unit-requires
