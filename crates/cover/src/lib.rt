@@ -173,7 +173,7 @@ fn free_surplus(caps: &[u64; 16], weights: &[u64; 16], rate: u64, out: u32, i: u
     if sets::has(out, i) {
         return 0;
     }
-    words::saturating_sub(rate * caps[i], weights[i])
+    (rate * caps[i]).saturating_sub(weights[i])
 }
 
 // Puts what the free units up to unit k give together, and what they yield, into a table that has this for the units below it.

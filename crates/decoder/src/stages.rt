@@ -109,7 +109,7 @@ fn section(most: u32, next: usize, v: usize) -> Stage
     ensures { (fault_number result.fault ≡ within 0 most v) × (result.most ≡ most) × (result.next ≡ next) }
 {
     Stage {
-        fault: range(0, words::widen(most), v),
+        fault: range(0, most as usize, v),
         most,
         next,
     }

@@ -7,8 +7,5 @@ ghost use Rattle.std.specs.Prelude.{◌≡◌, length, replicate};
 pub fn clear(words: &mut [u32])
     ensures { words.new ≡ replicate (length words.old) 0 }
 {
-    let n = words.len();
-    for k in 0..n {
-        words[k] = 0;
-    }
+    words.fill(0);
 }

@@ -28,7 +28,7 @@ pub fn starts_of(file: &File, i: usize) -> Starts
     let latest = file.latest(i);
     let duration = file.duration(i);
     // From a later start the overhaul would not end in the season.
-    let last = words::min(latest, file.layout.weeks - duration + 1);
+    let last = latest.min(file.layout.weeks - duration + 1);
     Starts { first, last }
 }
 

@@ -97,7 +97,7 @@ fn query_cost(file: &File, query: u32, scratch: &mut [u32]) -> u32
     ensures answer { result ≡ query_cost (problem file.now) query }
     ensures kept { Right (problem file.now) scratch.new }
 {
-    let asked = words::widen(query / SETS);
+    let asked = (query / SETS) as usize;
     if asked == 0 {
         return NO_RUN as u32;
     }

@@ -223,7 +223,7 @@ fn choose_by_states(file: &File, tables: &[u32; TABLES], y: WeekNode, nodes: u64
     };
     let found = states::week_least(file, tables, w);
     let value = found.value;
-    let spent = words::saturating_sub(nodes, found.fuel);
+    let spent = nodes.saturating_sub(found.fuel);
     WeekChoice {
         value,
         out: found.out,

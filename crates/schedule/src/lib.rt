@@ -27,7 +27,7 @@ fn overhauled(file: &File, starts: &[u32], t: usize, i: usize) -> bool
     requires { (t < file.now.layout.weeks) × (i < file.now.layout.units) }
     ensures { result ≡ in_span (get_or starts.now i 0) ((problem file.now).duration i) t }
 {
-    let start = words::widen(number_at(starts, i));
+    let start = number_at(starts, i) as usize;
     let duration = file.duration(i);
     start <= t + 1 && t + 1 < start + duration
 }
