@@ -9,8 +9,8 @@ ghost use Rattle.model.specs.Asks.{ceiling_at, budget_at};
 ghost use Rattle.decoder.specs.Answers.{fault_number, verdict_of};
 ghost use Rattle.instance.specs.File.{problem};
 
-use instance::File;
 use decoder::{Fault, Refusal};
+use instance::File;
 
 // ---- the words
 
@@ -89,7 +89,13 @@ fn scratch_wanted(u: usize) -> usize
 }
 
 // Lent memory for some asks: the table, the answers, the scratch.
-fn memory_verdict(file: &File, asks: usize, table: usize, answers: usize, scratch: usize) -> Result<(), Refusal>
+fn memory_verdict(
+    file: &File,
+    asks: usize,
+    table: usize,
+    answers: usize,
+    scratch: usize,
+) -> Result<(), Refusal>
     requires { asks ≤ 32 }
     ensures { verdict_of result ≡ memory_verdict (problem file.now) asks table answers scratch }
 {

@@ -59,7 +59,7 @@ unfolding row_paid
 paid_more p rows t s v r hs hv hr = sum_next (row_paid p rows) t s v r hs hv hr
 
 -- all of them
-pub paid_ended : (file : File) (rows starts : List ℕ) (t weeks r : ℕ) 
+pub paid_ended : (file : File) (rows starts : List ℕ) (t weeks r : ℕ)
     → RowsOfAll (problem file) (entry starts) rows → weeks ≡ file.layout.weeks → t ≤ weeks → weeks ≤ t
     → r ≡ sum_to t (row_paid (problem file) rows) → r ≡ paid (problem file) (out_in (problem file) (entry starts))
 unfolding paid week_paid row_paid out_cost

@@ -20,7 +20,6 @@ use Rattle.instance.specs.declared.file.File.{File}
 use Rattle.instance.specs.File.{problem}
 use Rattle.commitment.specs.declared.BestRun.{BestRun}
 use Rattle.commitment.specs.Answers.{Answers}
-use Rattle.instance.specs.declared.Euro.{Euro}
 use Rattle.blame.specs.Placed.{first_units, out_of, run_of, run_at}
 use Rattle.blame.proofs.PlacedLaws.{first_next, run_same as cost-same}
 use Rattle.bound.specs.Rows.{Rows, RowsDue, RowsWith, RowsOfAll}
@@ -90,7 +89,7 @@ rows_all p rows b starts h all =
     record { long = h.long; tallies = h.tallies; sets = λ t m i k. h.sets t m i ∙ rw (all i k) }
 
 -- all of them
-pub placed_all : (file : File) (rows : List ℕ) (starts : ℕ → ℕ) (j units : ℕ) 
+pub placed_all : (file : File) (rows : List ℕ) (starts : ℕ → ℕ) (j units : ℕ)
     → Rows (problem file) (out_of (problem file) (first_units j) starts) rows → units ≡ file.layout.units → units ≤ j → RowsOfAll (problem file) starts rows
 unfolding first_units
 placed_all file rows starts j units h e b =

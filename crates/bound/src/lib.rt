@@ -76,14 +76,18 @@ fn with_start(tables: &[u32; TABLES], node: Node) -> Node
     ensures { result ≡ with_start tables.now node }
 {
     let start = node.starts[node.unit] as usize;
-    dual::with_bound(
-        node,
-        node.bound + tables::excess(tables, node.unit, start),
-    )
+    dual::with_bound(node, node.bound + tables::excess(tables, node.unit, start))
 }
 
 // The bound with the weeks, weighed against the limit: one that comes to it blames those whose starts keep it there.
-fn weigh(file: &File, tables: &[u32; TABLES], node: Node, total: Euro, limit: Euro, values: &mut [u32]) -> Result<Euro, u32>
+fn weigh(
+    file: &File,
+    tables: &[u32; TABLES],
+    node: Node,
+    total: Euro,
+    limit: Euro,
+    values: &mut [u32],
+) -> Result<Euro, u32>
     requires { Weighing file.now tables.now node total limit.0 values.old }
     ensures { Judged (problem file.now) tables.now node limit.0 values.new result }
 {
@@ -97,7 +101,15 @@ fn weigh(file: &File, tables: &[u32; TABLES], node: Node, total: Euro, limit: Eu
 
 // The node's unit at its start, with the units placed as the rows have them: the rules in the weeks of its overhaul, and the lower bound; or the units
 // whose starts are a dead end. The values of the weeks are those without the unit before, and those with it after where it holds (D56).
-pub fn test(file: &File, tables: &[u32; TABLES], rows: &[u64; 52], node: Node, limit: Euro, values: &mut [u32], memo: &mut [u32]) -> Result<Euro, u32>
+pub fn test(
+    file: &File,
+    tables: &[u32; TABLES],
+    rows: &[u64; 52],
+    node: Node,
+    limit: Euro,
+    values: &mut [u32],
+    memo: &mut [u32],
+) -> Result<Euro, u32>
     requires { TestDue file.now tables.now rows.now node limit.0 values.old memo.old }
     ensures answer { Judged (problem file.now) tables.now node limit.0 values.new result }
     ensures recalls { MemoTrue (problem file.now) (price_in tables.now) memo.new }

@@ -43,7 +43,13 @@ fn overhaul_weeks(file: &File, node: Node) -> Weeks
 // ---- one week
 
 // Week t with the units of a tally out: the crews (7), a run that meets the demand (1); and what the week is worth then.
-fn test_out(file: &File, tables: &[u32; TABLES], t: usize, y: Tally, memo: &mut [u32]) -> Result<Euro, u32>
+fn test_out(
+    file: &File,
+    tables: &[u32; TABLES],
+    t: usize,
+    y: Tally,
+    memo: &mut [u32],
+) -> Result<Euro, u32>
     requires { WeekAt file.now tables.now t × Tallies (problem file.now) t y × MemoTrue (problem file.now) (price_in tables.now) memo.old }
     ensures answer { OutTested (problem file.now) (price_in tables.now) t y.out result }
     ensures recalls { MemoTrue (problem file.now) (price_in tables.now) memo.new }
@@ -59,7 +65,14 @@ fn test_out(file: &File, tables: &[u32; TABLES], t: usize, y: Tally, memo: &mut 
 }
 
 // Week t with unit j out as well: the excluded pairs (8), then the tests of all who are out.
-fn test_week(file: &File, tables: &[u32; TABLES], j: usize, t: usize, word: u64, memo: &mut [u32]) -> Result<Euro, u32>
+fn test_week(
+    file: &File,
+    tables: &[u32; TABLES],
+    j: usize,
+    t: usize,
+    word: u64,
+    memo: &mut [u32],
+) -> Result<Euro, u32>
     requires { WeekAt file.now tables.now t × (j < file.now.layout.units) × WeekDue (problem file.now) t word
         × MemoTrue (problem file.now) (price_in tables.now) memo.old }
     ensures answer { WeekTested (problem file.now) (price_in tables.now) j t word result }
@@ -93,7 +106,15 @@ fn put_value(sum: Euro, t: usize, value: Euro, values: &mut [u32]) -> Euro
 }
 
 // Week t of unit j's overhaul, at the bound of the weeks before it; where it holds its value is written, and the bound with it given.
-fn test_next(file: &File, tables: &[u32; TABLES], rows: &[u64; 52], node: Node, t: usize, values: &mut [u32], memo: &mut [u32]) -> Result<Euro, u32>
+fn test_next(
+    file: &File,
+    tables: &[u32; TABLES],
+    rows: &[u64; 52],
+    node: Node,
+    t: usize,
+    values: &mut [u32],
+    memo: &mut [u32],
+) -> Result<Euro, u32>
     requires { WeeksDue file.now tables.now rows.now node t values.old memo.old }
     ensures answer { WeeksTested (problem file.now) tables.now (has node.placed) (entry node.starts) node.unit t values.new result }
     ensures recalls { MemoTrue (problem file.now) (price_in tables.now) memo.new }
@@ -105,7 +126,15 @@ fn test_next(file: &File, tables: &[u32; TABLES], rows: &[u64; 52], node: Node, 
 // ---- all weeks of an overhaul
 
 // Unit j at its start, on the weeks of its overhaul, as far as the bound stays below what is wanted. The node's bound has the unit's start in it.
-pub fn test_weeks(file: &File, tables: &[u32; TABLES], rows: &[u64; 52], node: Node, wanted: Euro, values: &mut [u32], memo: &mut [u32]) -> Result<Euro, u32>
+pub fn test_weeks(
+    file: &File,
+    tables: &[u32; TABLES],
+    rows: &[u64; 52],
+    node: Node,
+    wanted: Euro,
+    values: &mut [u32],
+    memo: &mut [u32],
+) -> Result<Euro, u32>
     requires { StartDue file.now tables.now rows.now node values.old memo.old }
     ensures answer { Tested (problem file.now) tables.now (has node.placed) (entry node.starts) node.unit
         wanted.0 values.new result }

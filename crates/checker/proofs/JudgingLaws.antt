@@ -9,7 +9,6 @@ use borrow.Author.Tests.{eq-eqb, ne_eqb, le-leb, lt-leb}
 use Rattle.model.specs.Problem.{Problem}
 use Rattle.model.specs.Grid.{States, cell}
 use Rattle.model.specs.Rules.{broken, cost9}
-use Rattle.model.specs.Words.{layout_of, problem_of}
 use Rattle.model.specs.Verdict.{Verdict, accepted, refused, and_then, first_fault}
 use Rattle.model.specs.Reading.{read_of}
 use Rattle.model.specs.Refusal.{cell_fault, grid_verdict}

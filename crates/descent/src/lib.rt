@@ -4,7 +4,6 @@
 #![tactic(auto)]
 
 ghost use Rattle.std.specs.Prelude.{◌≡◌, ◌<◌, ◌≤◌};
-ghost use Rattle.sums.specs.Table.{entry};
 ghost use Rattle.tables.specs.Tables.{price_in};
 ghost use Rattle.relaxation.specs.Relaxed.{MemoTrue};
 ghost use Rattle.descent.specs.Descent.{DescentDue, Descended, UnitDue, TryDue, HeldDue, Told, Found, UnitDone, TryDone, HeldDone, IsAt, Keeps};
@@ -68,7 +67,15 @@ fn tell(step: Step, limit: Euro) -> Descent
 }
 
 // A plan below the limit with the starts of the units placed: the one that is known where it has the last of them, else that of a probe.
-fn find_plan(file: &File, tables: &[u32; TABLES], rows: &[u64; 52], values: &[u32; 52], at: Visit, table: &mut [u32], memo: &mut [u32]) -> Descent
+fn find_plan(
+    file: &File,
+    tables: &[u32; TABLES],
+    rows: &[u64; 52],
+    values: &[u32; 52],
+    at: Visit,
+    table: &mut [u32],
+    memo: &mut [u32],
+) -> Descent
     requires { HeldDue file.now tables.now rows.now values.now at table.old memo.old }
     ensures answer { Found file.now tables.now rows.now values.now at table.old table.new memo.new result }
     ensures recalls { MemoTrue (problem file.now) (price_in tables.now) memo.new }
@@ -95,7 +102,15 @@ fn in_state(at: Visit, state: State) -> Visit
 
 // The unit placed last has a start that holds: where a plan has it, the next unit.
 #[cycle(lower_lower_held_lower_start)]
-fn lower_held(file: &File, tables: &[u32; TABLES], rows: &[u64; 52], values: &[u32; 52], at: Visit, table: &mut [u32], memo: &mut [u32]) -> Descent
+fn lower_held(
+    file: &File,
+    tables: &[u32; TABLES],
+    rows: &[u64; 52],
+    values: &[u32; 52],
+    at: Visit,
+    table: &mut [u32],
+    memo: &mut [u32],
+) -> Descent
     requires { HeldDue file.now tables.now rows.now values.now at table.old memo.old }
     ensures answer { HeldDone (problem file.now) table.old table.new at result }
     ensures recalls { MemoTrue (problem file.now) (price_in tables.now) memo.new }
@@ -112,7 +127,15 @@ fn lower_held(file: &File, tables: &[u32; TABLES], rows: &[u64; 52], values: &[u
 
 // Tries a start of the node's unit.
 #[cycle(lower_lower_held_lower_start)]
-fn lower_start(file: &File, tables: &[u32; TABLES], rows: &[u64; 52], values: &[u32; 52], at: Visit, table: &mut [u32], memo: &mut [u32]) -> Descent
+fn lower_start(
+    file: &File,
+    tables: &[u32; TABLES],
+    rows: &[u64; 52],
+    values: &[u32; 52],
+    at: Visit,
+    table: &mut [u32],
+    memo: &mut [u32],
+) -> Descent
     requires { TryDue file.now tables.now rows.now values.now at table.old memo.old }
     ensures answer { TryDone (problem file.now) table.old table.new at result }
     ensures recalls { MemoTrue (problem file.now) (price_in tables.now) memo.new }
@@ -134,7 +157,15 @@ fn lower_start(file: &File, tables: &[u32; TABLES], rows: &[u64; 52], values: &[
 
 // The starts of the node's unit in turn, as far as a plan has one; where no unit is left the plan is the earliest.
 #[cycle(lower_lower_held_lower_start)]
-fn lower(file: &File, tables: &[u32; TABLES], rows: &[u64; 52], values: &[u32; 52], at: Visit, table: &mut [u32], memo: &mut [u32]) -> Descent
+fn lower(
+    file: &File,
+    tables: &[u32; TABLES],
+    rows: &[u64; 52],
+    values: &[u32; 52],
+    at: Visit,
+    table: &mut [u32],
+    memo: &mut [u32],
+) -> Descent
     requires { UnitDue file.now tables.now rows.now values.now at table.old memo.old }
     ensures answer { UnitDone (problem file.now) table.old table.new at result }
     ensures recalls { MemoTrue (problem file.now) (price_in tables.now) memo.new }
@@ -161,7 +192,13 @@ fn lower(file: &File, tables: &[u32; TABLES], rows: &[u64; 52], values: &[u32; 5
 
 // From the state's plan, whose cost is the state's limit and the least: the earliest plan of that cost, in a state under a limit one euro above it; or
 // the tries are spent.
-pub fn descend(file: &File, tables: &[u32; TABLES], st: State, table: &mut [u32], memo: &mut [u32]) -> Descent
+pub fn descend(
+    file: &File,
+    tables: &[u32; TABLES],
+    st: State,
+    table: &mut [u32],
+    memo: &mut [u32],
+) -> Descent
     requires { DescentDue file.now tables.now st table.old memo.old }
     ensures answer { Descended (problem file.now) table.old table.new st result }
     ensures recalls { MemoTrue (problem file.now) (price_in tables.now) memo.new }

@@ -6,7 +6,7 @@
 #![tactic(auto)]
 
 ghost use Rattle.std.specs.Prelude.{◌≡◌, ◌*◌, ◌<◌, ◌≤◌};
-ghost use Rattle.sums.specs.Sum.{sum_to, row_sum};
+ghost use Rattle.sums.specs.Sum.{row_sum};
 ghost use Rattle.tables.specs.Tables.{MOST_WEEK_PRICES, price_in, Prices};
 ghost use Rattle.blame.specs.Priced.{price_sum};
 ghost use Rattle.blame.specs.Free.{UnitFree, WeekFree};

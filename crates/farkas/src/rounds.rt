@@ -98,7 +98,13 @@ fn multiply(l: Layout, shorter: u64, push: &[u32; PLACES], tables: &mut [u32; TA
 }
 
 // A round: pushes, a step, and the test at the new prices.
-fn run_round(file: &File, shorter: u64, tables: &mut [u32; TABLES], push: &mut [u32; PLACES], wants: &mut Wants) -> bool
+fn run_round(
+    file: &File,
+    shorter: u64,
+    tables: &mut [u32; TABLES],
+    push: &mut [u32; PLACES],
+    wants: &mut Wants,
+) -> bool
     requires { PricedFile file.now tables.old × AtMost MOST_PUSH push.old × (0 < shorter) }
     ensures ranges { PricedFile file.now tables.new × AtMost MOST_PUSH push.new }
     ensures none { ShowsNone (problem file.now) result }

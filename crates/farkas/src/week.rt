@@ -1,6 +1,6 @@
 // A week of the free plant: which units may be out so that the prices of the others are least. Units are out or stay from the highest down, out first;
 // the search turns back where the capacities left fall short of the need, and where the prices that could still be saved bring it no further.
-ghost use Rattle.std.specs.Prelude.{◌≡◌, true, false, ◌+◌, ◌*◌, ◌<◌, ◌≤◌};
+ghost use Rattle.std.specs.Prelude.{◌≡◌, ◌+◌, ◌*◌, ◌<◌, ◌≤◌};
 ghost use Rattle.sums.specs.Sum.{sum_to};
 ghost use Rattle.sums.specs.NumSet.{has};
 ghost use Rattle.sums.specs.Table.{entry};
@@ -117,7 +117,13 @@ struct SumsWith {
 }
 
 // The sums over the units below i, with unit i.
-fn sums_with(file: &File, tables: &[u32; TABLES], t: usize, i: usize, sums: &[u64; SUMS]) -> SumsWith
+fn sums_with(
+    file: &File,
+    tables: &[u32; TABLES],
+    t: usize,
+    i: usize,
+    sums: &[u64; SUMS],
+) -> SumsWith
     requires { SumsDue file.now tables.now t sums.now i × (i < file.now.layout.units) }
     ensures { UnitAdded (problem file.now) tables.now t sums.now i result }
 {
@@ -216,7 +222,14 @@ fn bound(file: &File, tables: &[u32; TABLES], sums: &[u64; SUMS], k: usize, y: F
 
 // A node before its highest unit is decided. It is done with where the capacities left fall short, where it cannot come below the least, where no
 // unit or no crew is left, and where the fuel is spent: then it counts as what it comes to at least.
-fn look(file: &File, tables: &[u32; TABLES], sums: &[u64; SUMS], k: usize, y: FreeNode, low: FreeWeek) -> Looked
+fn look(
+    file: &File,
+    tables: &[u32; TABLES],
+    sums: &[u64; SUMS],
+    k: usize,
+    y: FreeNode,
+    low: FreeWeek,
+) -> Looked
     requires { NodeDue file.now tables.now sums.now k y }
     ensures { Seen (problem file.now) tables.now k y low result }
 {
@@ -276,7 +289,14 @@ fn leave(file: &File, tables: &[u32; TABLES], i: usize, y: FreeNode) -> FreeNode
 
 // The least so far, or less, after all choices in which unit i is out, as the highest that is still to be decided.
 #[cycle(try_out_walk)]
-fn try_out(file: &File, tables: &[u32; TABLES], sums: &[u64; SUMS], i: usize, y: FreeNode, low: FreeWeek) -> FreeWeek
+fn try_out(
+    file: &File,
+    tables: &[u32; TABLES],
+    sums: &[u64; SUMS],
+    i: usize,
+    y: FreeNode,
+    low: FreeWeek,
+) -> FreeWeek
     requires { TryAt file.now tables.now sums.now i y }
     ensures { OutTried (problem file.now) tables.now i y low result }
 {
@@ -293,7 +313,14 @@ fn try_out(file: &File, tables: &[u32; TABLES], sums: &[u64; SUMS], i: usize, y:
 
 // The least so far, or less, after all choices for the units below k.
 #[cycle(try_out_walk)]
-fn walk(file: &File, tables: &[u32; TABLES], sums: &[u64; SUMS], k: usize, y: FreeNode, low: FreeWeek) -> FreeWeek
+fn walk(
+    file: &File,
+    tables: &[u32; TABLES],
+    sums: &[u64; SUMS],
+    k: usize,
+    y: FreeNode,
+    low: FreeWeek,
+) -> FreeWeek
     requires { NodeAt file.now tables.now sums.now k y }
     ensures { NodeDone (problem file.now) tables.now k y low result }
 {

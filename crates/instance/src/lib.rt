@@ -3,13 +3,8 @@
 #![tactic(auto)]
 
 ghost use Rattle.std.specs.Prelude.{◌≡◌, ◌||◌, ℕ, ◌+◌, ◌-◌, ◌*◌, ◌<◌, ◌≤◌, ◌^◌, length};
-ghost use Rattle.sums.specs.NumSet.{has, only_in};
-ghost use Rattle.model.specs.Words.{VALUES, kind_at, value_at, layout_for, off_words, layout_of, problem_of};
-ghost use Rattle.model.specs.Rules.{output};
-ghost use Rattle.model.specs.Commitment.{off_cost};
-ghost use Rattle.model.specs.Pairs.{joins, apart};
-ghost use Rattle.instance.specs.Filed.{Filed};
-ghost use Rattle.instance.specs.Tables.{maints_of, runnings_of, table_for, row_of};
+ghost use Rattle.model.specs.Words.{VALUES, kind_at, value_at, layout_for, off_words, layout_of};
+ghost use Rattle.instance.specs.Tables.{table_for, row_of};
 
 pub use file::File;
 use model::Layout;

@@ -71,7 +71,15 @@ fn repeat_plan(plan: Reply, used: usize) -> Reply
 // ---- one ask
 
 // What a search tells the ask whose turn it is.
-fn reply_searched(file: &File, tables: &[u32; TABLES], asks: &[u32], turn: AskTurn, free: &mut Findings, table: &mut [u32], scratch: &mut [u32]) -> Reply
+fn reply_searched(
+    file: &File,
+    tables: &[u32; TABLES],
+    asks: &[u32],
+    turn: AskTurn,
+    free: &mut Findings,
+    table: &mut [u32],
+    scratch: &mut [u32],
+) -> Reply
     requires { OpenDue file.now tables.now asks.now turn.ask turn.carry free.old.shown table.old scratch.old }
     ensures { Told file.now tables.now asks.now turn.ask turn.carry table.old table.new
         scratch.new result free.new.shown }
@@ -84,7 +92,15 @@ fn reply_searched(file: &File, tables: &[u32; TABLES], asks: &[u32], turn: AskTu
 }
 
 // What the ask is told whose turn it is: at once where the carry settles it, else by a search (D66).
-fn reply(file: &File, tables: &[u32; TABLES], asks: &[u32], turn: AskTurn, free: &mut Findings, table: &mut [u32], scratch: &mut [u32]) -> Reply
+fn reply(
+    file: &File,
+    tables: &[u32; TABLES],
+    asks: &[u32],
+    turn: AskTurn,
+    free: &mut Findings,
+    table: &mut [u32],
+    scratch: &mut [u32],
+) -> Reply
     requires { ReplyDue file.now tables.now asks.now turn.ask turn.carry free.old.shown table.old scratch.old }
     ensures { Told file.now tables.now asks.now turn.ask turn.carry table.old table.new
         scratch.new result free.new.shown }
@@ -143,7 +159,15 @@ fn empty_carry() -> Carry
 }
 
 // Every ask of a run in turn.
-fn answer_each(file: &File, tables: &[u32; TABLES], asks: &[u32], free: &mut Findings, answers: &mut [u32], table: &mut [u32], scratch: &mut [u32])
+fn answer_each(
+    file: &File,
+    tables: &[u32; TABLES],
+    asks: &[u32],
+    free: &mut Findings,
+    answers: &mut [u32],
+    table: &mut [u32],
+    scratch: &mut [u32],
+)
     requires { StartDue file.now tables.now asks.now free.old.shown answers.old table.old scratch.old }
     ensures answered { Answered (problem file.now) asks.now answers.old answers.new table.new }
     ensures table_len_unchanged { length table.new ≡ length table.old }
@@ -159,7 +183,12 @@ fn answer_each(file: &File, tables: &[u32; TABLES], asks: &[u32], free: &mut Fin
 }
 
 // The table of a walk for a file, with an emptied memo; at prices of 0 where it is shown that there is no schedule, since no walk is made then.
-fn tables_of(file: &File, first: &[u32; TABLES], free: Findings, scratch: &mut [u32]) -> [u32; TABLES]
+fn tables_of(
+    file: &File,
+    first: &[u32; TABLES],
+    free: Findings,
+    scratch: &mut [u32],
+) -> [u32; TABLES]
     requires { First (problem file.now) (problem file.now).units first.now × (scratch.old ≡ replicate (length scratch.old) 0) }
     ensures { Walking file.now result scratch.new }
 {
@@ -171,7 +200,13 @@ fn tables_of(file: &File, first: &[u32; TABLES], free: Findings, scratch: &mut [
 }
 
 // Every ask of a run in turn, at prices that the file gives, with an emptied table (D63).
-fn answer_priced(file: &File, asks: &[u32], answers: &mut [u32], table: &mut [u32], scratch: &mut [u32])
+fn answer_priced(
+    file: &File,
+    asks: &[u32],
+    answers: &mut [u32],
+    table: &mut [u32],
+    scratch: &mut [u32],
+)
     requires { Admitted file.now asks.now (length table.old) (length answers.old) × (table.old ≡ replicate (length table.old) 0)
         × (scratch.old ≡ replicate (length scratch.old) 0) }
     ensures answered { Answered (problem file.now) asks.now answers.old answers.new table.new }
@@ -184,7 +219,13 @@ fn answer_priced(file: &File, asks: &[u32], answers: &mut [u32], table: &mut [u3
 }
 
 // Every ask of a run that was not turned away. Table and scratch are emptied first, whatever they held (D68).
-fn answer_all(file: &File, asks: &[u32], answers: &mut [u32], table: &mut [u32], scratch: &mut [u32])
+fn answer_all(
+    file: &File,
+    asks: &[u32],
+    answers: &mut [u32],
+    table: &mut [u32],
+    scratch: &mut [u32],
+)
     requires { Admitted file.now asks.now (length table.old) (length answers.old) }
     ensures answered { Answered (problem file.now) asks.now answers.old answers.new table.new }
     ensures table_len_unchanged { length table.new ≡ length table.old }

@@ -1,5 +1,5 @@
 // The unit that a probe places next. Nothing rests on which it is: a test at the end sees that it is one that is not placed.
-ghost use Rattle.std.specs.Prelude.{◌≡◌, false, ◌+◌, ◌<◌, ◌≤◌};
+ghost use Rattle.std.specs.Prelude.{◌≡◌, ◌+◌, ◌<◌, ◌≤◌};
 ghost use Rattle.sums.specs.NumSet.{has};
 ghost use Rattle.probe.specs.Probe.{Chosen};
 

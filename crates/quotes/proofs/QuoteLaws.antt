@@ -1,7 +1,7 @@
 -- What is quoted for a week and for an overhaul, case by case, and for the file's verdict.
 -- Assumes nothing.
 use Prim.Native.Nat.{ℕ, ◌-◌, ◌≤◌, ◌<◌}
-use mathlib.Core.Path.{◌≡◌, sym, ◌∙◌, subst}
+use mathlib.Core.Path.{◌≡◌, ◌∙◌, subst}
 use mathlib.Core.Bool.{true, false}
 use mathlib.Core.List.{List}
 use native.Mathlib.Omega.{arith}
@@ -12,17 +12,14 @@ use borrow.Author.Tests.{leb-true, le-leb, lt-leb}
 use Rattle.std.specs.Prelude.{Option, None, Some}
 use Rattle.sums.specs.NumSet.{has}
 use Rattle.sums.proofs.LogicLaws.{and_of, and_left, and_right}
-use Rattle.model.specs.declared.Layout.{Layout}
 use Rattle.model.specs.Domain.{permitted}
 use Rattle.model.specs.Plan.{upkeep}
-use Rattle.model.specs.Words.{layout_of, problem_of}
-use Rattle.model.specs.Verdict.{accepted, refused}
+use Rattle.model.specs.Words.{problem_of}
+use Rattle.model.specs.Verdict.{refused}
 use Rattle.model.specs.Reading.{read_of}
 use Rattle.model.proofs.CommitmentLaws.{cheapest_picked, none_picked}
 use Rattle.instance.specs.declared.file.File.{File}
 use Rattle.instance.specs.File.{problem}
-use Rattle.instance.specs.declared.Euro.{Euro}
-use Rattle.instance.specs.Filed.{Filed}
 use Rattle.instance.proofs.FiledLaws.{filed}
 use Rattle.overhaul.specs.Range.{StartRange}
 use Rattle.commitment.specs.declared.BestRun.{BestRun}

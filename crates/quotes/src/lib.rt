@@ -12,8 +12,8 @@ ghost use Rattle.quotes.specs.Quotes.{quote_with, run_quote, start_quote, upkeep
 ghost use Rattle.quotes.specs.Answers.{quote_of, quoted_of};
 ghost use Rattle.instance.specs.File.{problem};
 
-use instance::File;
 use decoder::{Fault, Refusal};
+use instance::File;
 use model::NO_RUN;
 use sets::SETS;
 

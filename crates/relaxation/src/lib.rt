@@ -128,7 +128,13 @@ fn child(tables: &[u32; TABLES], i: usize, y: WeekNode, out: u32, cost: Euro) ->
 }
 
 // The set with unit i out as well.
-fn with_unit(file: &File, tables: &[u32; TABLES], i: usize, y: WeekNode, memo: &mut [u32]) -> WeekNode
+fn with_unit(
+    file: &File,
+    tables: &[u32; TABLES],
+    i: usize,
+    y: WeekNode,
+    memo: &mut [u32],
+) -> WeekNode
     requires { WeekAt file.now tables.now y.week × Right (problem file.now) memo.old
         × NodeKnown (problem file.now) (price_in tables.now) y × (i < file.now.layout.units) × (0 < y.room) × (has y.shut i ≡ false) }
     ensures answer { WithUnit (problem file.now) (price_in tables.now) i y result }
@@ -141,7 +147,15 @@ fn with_unit(file: &File, tables: &[u32; TABLES], i: usize, y: WeekNode, memo: &
 
 // The best so far, or a better choice in which unit i is the highest of the further units out.
 #[cycle(choose_choose_with)]
-fn choose_with(file: &File, tables: &[u32; TABLES], left: &[u64; 17], i: usize, y: WeekNode, low: WeekChoice, memo: &mut [u32]) -> WeekChoice
+fn choose_with(
+    file: &File,
+    tables: &[u32; TABLES],
+    left: &[u64; 17],
+    i: usize,
+    y: WeekNode,
+    low: WeekChoice,
+    memo: &mut [u32],
+) -> WeekChoice
     requires { Choosing file.now tables.now left.now y memo.old × (i < file.now.layout.units) × (0 < y.room) × (low.value.0 ≤ y.value.0) }
     ensures answer { Lowers (problem file.now) (price_in tables.now) y.week (has y.out) i low.value.0 result.value.0 }
     ensures right { Right (problem file.now) memo.new × Others memo.old memo.new }
@@ -155,7 +169,15 @@ fn choose_with(file: &File, tables: &[u32; TABLES], left: &[u64; 17], i: usize, 
 
 // The best so far, or a better choice with the units of y and further ones below k.
 #[cycle(choose_choose_with)]
-fn choose(file: &File, tables: &[u32; TABLES], left: &[u64; 17], k: usize, y: WeekNode, best: WeekChoice, memo: &mut [u32]) -> WeekChoice
+fn choose(
+    file: &File,
+    tables: &[u32; TABLES],
+    left: &[u64; 17],
+    k: usize,
+    y: WeekNode,
+    best: WeekChoice,
+    memo: &mut [u32],
+) -> WeekChoice
     requires { Choosing file.now tables.now left.now y memo.old × (k ≤ file.now.layout.units) }
     ensures answer { Floor (problem file.now) (price_in tables.now) y.week (has y.out) k result.value.0 }
     ensures less { result.value.0 ≤ best.value.0 }
@@ -176,7 +198,14 @@ fn choose(file: &File, tables: &[u32; TABLES], left: &[u64; 17], k: usize, y: We
 }
 
 // The set of units that are out, at the cost of its cheapest run, before others are tried.
-fn root(file: &File, tables: &[u32; TABLES], left: &[u64; 17], t: usize, out: u32, cost: Euro) -> WeekNode
+fn root(
+    file: &File,
+    tables: &[u32; TABLES],
+    left: &[u64; 17],
+    t: usize,
+    out: u32,
+    cost: Euro,
+) -> WeekNode
     requires { Beginning file.now tables.now left.now t out cost.0 }
     ensures { RootNode (problem file.now) (price_in tables.now) t out cost.0 result }
 {
@@ -195,7 +224,14 @@ fn root(file: &File, tables: &[u32; TABLES], left: &[u64; 17], t: usize, out: u3
 }
 
 // What a week is worth with the units of y out, and others perhaps, by the choice of sets; 0 where it was given up.
-fn choose_by_sets(file: &File, tables: &[u32; TABLES], left: &[u64; 17], y: WeekNode, sets: u32, memo: &mut [u32]) -> WeekChoice
+fn choose_by_sets(
+    file: &File,
+    tables: &[u32; TABLES],
+    left: &[u64; 17],
+    y: WeekNode,
+    sets: u32,
+    memo: &mut [u32],
+) -> WeekChoice
     requires { Choosing file.now tables.now left.now y memo.old }
     ensures answer { WeekLeast (problem file.now) (price_in tables.now) y.week (has y.out) result.value.0
         × (result.value.0 ≤ y.value.0) }
@@ -234,7 +270,14 @@ fn choose_by_states(file: &File, tables: &[u32; TABLES], y: WeekNode, nodes: u64
 
 // What a week is worth at least with the units of y out, and others perhaps: just these where no crew is left, else by sets, and where that is given
 // up by states.
-fn choose_any(file: &File, tables: &[u32; TABLES], left: &[u64; 17], y: WeekNode, effort: Effort, memo: &mut [u32]) -> WeekChoice
+fn choose_any(
+    file: &File,
+    tables: &[u32; TABLES],
+    left: &[u64; 17],
+    y: WeekNode,
+    effort: Effort,
+    memo: &mut [u32],
+) -> WeekChoice
     requires { Choosing file.now tables.now left.now y memo.old }
     ensures answer { WeekLeast (problem file.now) (price_in tables.now) y.week (has y.out) result.value.0
         × (result.value.0 ≤ y.value.0) }
@@ -251,7 +294,15 @@ fn choose_any(file: &File, tables: &[u32; TABLES], left: &[u64; 17], y: WeekNode
 }
 
 // What week t is worth with these units out, and others perhaps, where their cheapest run costs so much.
-fn choice_from(file: &File, tables: &[u32; TABLES], t: usize, out: u32, cost: Euro, effort: Effort, memo: &mut [u32]) -> WeekChoice
+fn choice_from(
+    file: &File,
+    tables: &[u32; TABLES],
+    t: usize,
+    out: u32,
+    cost: Euro,
+    effort: Effort,
+    memo: &mut [u32],
+) -> WeekChoice
     requires { WeekAt file.now tables.now t × Right (problem file.now) memo.old × (cost.0 ≡ full_least (problem file.now) t (has out))
         × (cost.0 < NO_RUN) }
     ensures answer { Value (problem file.now) (price_in tables.now) t (has out) result.value.0 }
@@ -263,7 +314,14 @@ fn choice_from(file: &File, tables: &[u32; TABLES], t: usize, out: u32, cost: Eu
 }
 
 // What week t is worth with these units out, and others perhaps, computed from the least costs alone. The set is advice.
-pub fn best_choice(file: &File, tables: &[u32; TABLES], t: usize, out: u32, effort: Effort, memo: &mut [u32]) -> WeekChoice
+pub fn best_choice(
+    file: &File,
+    tables: &[u32; TABLES],
+    t: usize,
+    out: u32,
+    effort: Effort,
+    memo: &mut [u32],
+) -> WeekChoice
     requires { WeekAt file.now tables.now t × Right (problem file.now) memo.old }
     ensures answer { Value (problem file.now) (price_in tables.now) t (has out) result.value.0 }
     ensures right { Right (problem file.now) memo.new × Others memo.old memo.new }

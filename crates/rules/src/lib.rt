@@ -4,7 +4,7 @@
 // from the first to the last in which a unit is in maintenance, and here all are asked in turn: start at `broken`.
 #![tactic(auto)]
 
-ghost use Rattle.std.specs.Prelude.{◌≡◌, ◌*◌, ◌<◌, ◌≤◌, length};
+ghost use Rattle.std.specs.Prelude.{◌≡◌, ◌*◌, ◌<◌, ◌≤◌};
 ghost use Rattle.model.specs.Rules as formulas;
 ghost use Rattle.instance.specs.File.{problem};
 ghost use Rattle.rules.specs.Gridded.{states};

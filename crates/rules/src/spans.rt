@@ -1,5 +1,5 @@
 // Formulas (4) to (6) and (8): the weeks from the first to the last in which a unit is in maintenance.
-ghost use Rattle.std.specs.Prelude.{◌≡◌, ◌*◌, ◌<◌, ◌≤◌, length};
+ghost use Rattle.std.specs.Prelude.{◌≡◌, ◌*◌, ◌<◌, ◌≤◌};
 ghost use Rattle.model.specs.Rules as formulas;
 ghost use Rattle.instance.specs.File.{problem};
 ghost use Rattle.rules.specs.Spans.{FirstOut, EndOut};

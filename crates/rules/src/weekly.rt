@@ -1,5 +1,5 @@
 // Formulas (1) and (7): what the units of a week come to, against what is due or there.
-ghost use Rattle.std.specs.Prelude.{◌≡◌, ◌*◌, ◌<◌, ◌≤◌, length};
+ghost use Rattle.std.specs.Prelude.{◌≡◌, ◌*◌, ◌<◌, ◌≤◌};
 ghost use Rattle.sums.specs.Sum.{counts_one};
 ghost use Rattle.sums.specs.NumSet.{only_in};
 ghost use Rattle.model.specs.Grid.{is_on, is_maint};

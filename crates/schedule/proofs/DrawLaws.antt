@@ -1,7 +1,7 @@
 -- A schedule laid out byte by byte: a week's place in an overhaul, the state of a cell, the bytes written so far, and the answer.
 -- Assumes nothing.
 use Prim.Native.Nat.{ℕ, ◌*◌, ◌/◌, ◌%◌, ◌≤◌, ◌<◌}
-use mathlib.Core.Path.{◌≡◌, refl, sym}
+use mathlib.Core.Path.{◌≡◌, refl}
 use mathlib.Core.Bool.{Bool, true, false}
 use mathlib.Core.List.{List, ◌++◌}
 use native.Mathlib.Omega.{arith}
@@ -15,13 +15,11 @@ use Rattle.sums.proofs.LoopLaws.{list_ended}
 use Rattle.model.specs.Problem.{Problem}
 use Rattle.model.specs.Grid.{States, state_at}
 use Rattle.model.specs.Schedule.{Schedule, schedule_of, in_span, out_in, lay_out}
-use Rattle.model.specs.Words.{layout_of}
 use Rattle.model.specs.Verdict.{accepted, refused}
 use Rattle.model.specs.Reading.{read_of}
 use Rattle.model.specs.Drawing.{draw_verdict, drawn_into}
 use Rattle.instance.specs.declared.file.File.{File}
 use Rattle.instance.specs.File.{problem}
-use Rattle.instance.specs.Filed.{Filed}
 use Rattle.instance.proofs.FiledLaws.{filed, cells_are}
 
 -- ---- the state of a cell

@@ -11,8 +11,8 @@ ghost use Rattle.model.specs.Drawing.{draw_verdict, drawn_into};
 ghost use Rattle.decoder.specs.Answers.{verdict_of};
 ghost use Rattle.instance.specs.File.{problem};
 
-use instance::File;
 use decoder::{Fault, Refusal};
+use instance::File;
 
 // The number at place k of a list, 0 past its end.
 fn number_at(list: &[u32], k: usize) -> u32
@@ -52,7 +52,13 @@ fn drawn_state(file: &File, starts: &[u32], runs: &[u32], q: usize) -> u8
     ensures { result ≡ state_at (problem file.now)
         (lay_out (problem file.now) (schedule_of starts.now runs.now)) q }
 {
-    state(file, starts, runs, q / file.layout.units, q % file.layout.units)
+    state(
+        file,
+        starts,
+        runs,
+        q / file.layout.units,
+        q % file.layout.units,
+    )
 }
 
 // Writes the grid; the bytes beyond are kept.

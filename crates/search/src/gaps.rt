@@ -152,7 +152,14 @@ fn probe_at(at: GapTurn) -> State
 }
 
 // The turn after a probe in vain: what the free plant shows then decides whether tries are left.
-fn vain_turn(file: &File, tables: &[u32; TABLES], budget: u32, at: GapTurn, step: Step, free: &mut Findings) -> GapTurn
+fn vain_turn(
+    file: &File,
+    tables: &[u32; TABLES],
+    budget: u32,
+    at: GapTurn,
+    step: Step,
+    free: &mut Findings,
+) -> GapTurn
     requires { AfterVain file.now tables.now at free.old.shown }
     ensures { VainOn (problem file.now) at step.state free.new.shown result }
 {
@@ -168,7 +175,15 @@ fn vain_turn(file: &File, tables: &[u32; TABLES], budget: u32, at: GapTurn, step
 }
 
 // The probe at the next gap, in an ask with this budget.
-fn probe_gap(file: &File, tables: &[u32; TABLES], st: State, at: GapTurn, free: &mut Findings, table: &mut [u32], memo: &mut [u32]) -> GapEnd
+fn probe_gap(
+    file: &File,
+    tables: &[u32; TABLES],
+    st: State,
+    at: GapTurn,
+    free: &mut Findings,
+    table: &mut [u32],
+    memo: &mut [u32],
+) -> GapEnd
     requires { GapAt file.now tables.now st at free.old.shown table.old memo.old × (at.gap.0 < at.room.0) }
     ensures { GapNext file.now tables.now st table.old at table.new memo.new free.new.shown result }
 {
@@ -191,7 +206,14 @@ pub enum Probes {
 }
 
 // Probes at ceilings that rise from the root's bound. They share as many tries as the ask's budget (D76).
-pub fn probe_gaps(file: &File, tables: &[u32; TABLES], st: State, free: &mut Findings, table: &mut [u32], memo: &mut [u32]) -> Probes
+pub fn probe_gaps(
+    file: &File,
+    tables: &[u32; TABLES],
+    st: State,
+    free: &mut Findings,
+    table: &mut [u32],
+    memo: &mut [u32],
+) -> Probes
     requires { SearchDue file.now tables.now st free.old.shown table.old memo.old }
     ensures { GapsDone file.now tables.now table.old st table.new memo.new free.new.shown result }
 {

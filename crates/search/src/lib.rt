@@ -16,8 +16,8 @@ ghost use Rattle.search.specs.Walks.{SearchDue, SearchDone};
 ghost use Rattle.search.specs.Ask.{ReplyOfDue, ReplyOf, AskDue, AskSearched, Asked};
 ghost use Rattle.instance.specs.File.{problem};
 
-use instance::File;
 use farkas::Findings;
+use instance::File;
 use state::{State, Step, Walked};
 use tables::TABLES;
 
@@ -40,7 +40,14 @@ pub struct Reply {
 }
 
 // The walks of an ask; none where some unit has no permitted start, and where it is known that there is no schedule.
-fn search_all(file: &File, tables: &[u32; TABLES], st: State, free: &mut Findings, table: &mut [u32], memo: &mut [u32]) -> Step
+fn search_all(
+    file: &File,
+    tables: &[u32; TABLES],
+    st: State,
+    free: &mut Findings,
+    table: &mut [u32],
+    memo: &mut [u32],
+) -> Step
     requires { SearchDue file.now tables.now st free.old.shown table.old memo.old }
     ensures answer { SearchDone (problem file.now) table.old table.new st result free.new.shown }
     ensures startless { some_startless (problem file.now) ≡ true → result ≡ dead_at st 0 }
@@ -56,7 +63,15 @@ fn search_all(file: &File, tables: &[u32; TABLES], st: State, free: &mut Finding
 }
 
 // The walks of an ask from its ceiling and budget.
-fn search_ask(file: &File, tables: &[u32; TABLES], ask: Ask, free: &mut Findings, table: &mut [u32], used: usize, memo: &mut [u32]) -> Step
+fn search_ask(
+    file: &File,
+    tables: &[u32; TABLES],
+    ask: Ask,
+    free: &mut Findings,
+    table: &mut [u32],
+    used: usize,
+    memo: &mut [u32],
+) -> Step
     requires { AskDue file.now tables.now ask free.old.shown table.old used memo.old }
     ensures answer { AskSearched file.now tables.now ask table.old used table.new result free.new.shown }
     ensures recalls { MemoTrue (problem file.now) (price_in tables.now) memo.new }
@@ -90,7 +105,15 @@ fn make_reply(file: &File, step: Step, table: &mut [u32]) -> Reply
 
 // One ask: the earliest of the cheapest schedules at or below the ceiling, within a budget of tries. The first `used` words of the table hold true
 // nogoods, at entry and at exit, where the state says how many are in use. What is known of the free plant is true, at entry and at exit.
-pub fn solve(file: &File, tables: &[u32; TABLES], ask: Ask, free: &mut Findings, table: &mut [u32], used: usize, memo: &mut [u32]) -> Reply
+pub fn solve(
+    file: &File,
+    tables: &[u32; TABLES],
+    ask: Ask,
+    free: &mut Findings,
+    table: &mut [u32],
+    used: usize,
+    memo: &mut [u32],
+) -> Reply
     requires { AskDue file.now tables.now ask free.old.shown table.old used memo.old }
     ensures answer { Asked (problem file.now) ask.ceiling ask.budget table.old used table.new result }
     ensures free { ShowsNone (problem file.now) free.new.shown }

@@ -56,7 +56,14 @@ fn walk(file: &File, tables: &[u32; TABLES], st: State, table: &mut [u32], memo:
 // ---- the end of an ask
 
 // The walk in the paper's order at the ask's own ceiling and with its whole budget: it alone may be spent.
-fn last_walk(file: &File, tables: &[u32; TABLES], st: State, s: State, table: &mut [u32], memo: &mut [u32]) -> Step
+fn last_walk(
+    file: &File,
+    tables: &[u32; TABLES],
+    st: State,
+    s: State,
+    table: &mut [u32],
+    memo: &mut [u32],
+) -> Step
     requires { GoingDue file.now tables.now st s table.old memo.old }
     ensures answer { Settles (problem file.now) table.old table.new st s result }
     ensures recalls { MemoTrue (problem file.now) (price_in tables.now) memo.new }
@@ -80,7 +87,14 @@ fn tell_none(s: State, limit: Euro, budget: u32) -> Step
 }
 
 // From a plan of the least cost the earliest of them; where the tries are spent the last walk.
-fn solve_by_descent(file: &File, tables: &[u32; TABLES], st: State, s: State, table: &mut [u32], memo: &mut [u32]) -> Step
+fn solve_by_descent(
+    file: &File,
+    tables: &[u32; TABLES],
+    st: State,
+    s: State,
+    table: &mut [u32],
+    memo: &mut [u32],
+) -> Step
     requires { PlanDue file.now tables.now st s table.old memo.old }
     ensures answer { Settles (problem file.now) table.old table.new st s result }
     ensures recalls { MemoTrue (problem file.now) (price_in tables.now) memo.new }
@@ -95,7 +109,14 @@ fn solve_by_descent(file: &File, tables: &[u32; TABLES], st: State, s: State, ta
 }
 
 // One probe at the ask's own ceiling: without a plan there is none; from a plan the descent; where the tries are spent the last walk.
-fn solve_at_ceiling(file: &File, tables: &[u32; TABLES], st: State, s: State, table: &mut [u32], memo: &mut [u32]) -> Step
+fn solve_at_ceiling(
+    file: &File,
+    tables: &[u32; TABLES],
+    st: State,
+    s: State,
+    table: &mut [u32],
+    memo: &mut [u32],
+) -> Step
     requires { CeilingDue file.now tables.now st s table.old memo.old }
     ensures answer { Settles (problem file.now) table.old table.new st s result }
     ensures recalls { MemoTrue (problem file.now) (price_in tables.now) memo.new }
@@ -109,7 +130,15 @@ fn solve_at_ceiling(file: &File, tables: &[u32; TABLES], st: State, s: State, ta
 }
 
 // Where the probes at gaps were in vain: none where the free plant shows it, else one probe at the ask's own ceiling.
-fn solve_in_vain(file: &File, tables: &[u32; TABLES], st: State, s: State, free: &mut Findings, table: &mut [u32], memo: &mut [u32]) -> Step
+fn solve_in_vain(
+    file: &File,
+    tables: &[u32; TABLES],
+    st: State,
+    s: State,
+    free: &mut Findings,
+    table: &mut [u32],
+    memo: &mut [u32],
+) -> Step
     requires { VainDue file.now tables.now st s free.old.shown table.old memo.old }
     ensures answer { Concludes (problem file.now) table.old table.new st s result free.new.shown }
     ensures recalls { MemoTrue (problem file.now) (price_in tables.now) memo.new }
@@ -123,7 +152,14 @@ fn solve_in_vain(file: &File, tables: &[u32; TABLES], st: State, s: State, free:
 
 // An ask: probes at gaps above the root's bound, then one at the ask's own ceiling; from the plan of one the descent to the earliest. Where their tries
 // are spent all is forgotten but what the table holds, and the last walk follows.
-pub fn solve_by_probes(file: &File, tables: &[u32; TABLES], st: State, free: &mut Findings, table: &mut [u32], memo: &mut [u32]) -> Step
+pub fn solve_by_probes(
+    file: &File,
+    tables: &[u32; TABLES],
+    st: State,
+    free: &mut Findings,
+    table: &mut [u32],
+    memo: &mut [u32],
+) -> Step
     requires { SearchDue file.now tables.now st free.old.shown table.old memo.old }
     ensures answer { SearchDone (problem file.now) table.old table.new st result free.new.shown }
     ensures recalls { MemoTrue (problem file.now) (price_in tables.now) memo.new }

@@ -1,5 +1,5 @@
 // Lower bounds of what every choice from a node costs, each by a rate for the need and a price for each place OUT; and the tables that they read.
-ghost use Rattle.std.specs.Prelude.{◌≡◌, List, ℕ, ◌+◌, ◌-◌, ◌*◌, ◌<◌, ◌≤◌};
+ghost use Rattle.std.specs.Prelude.{◌≡◌, ℕ, ◌+◌, ◌-◌, ◌*◌, ◌<◌, ◌≤◌};
 ghost use Rattle.sums.specs.NumSet.{has};
 ghost use Rattle.states.specs.Choices.{ChoiceFloor};
 ghost use Rattle.states.specs.SearchTables.{SearchTables, OnsShort, places_of, MOST_COST, MOST_COST_SUM, MOST_GAIN_SUM, MOST_NEED, MOST_SCORE};

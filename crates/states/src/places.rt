@@ -6,8 +6,8 @@ ghost use Rattle.states.specs.SearchTables.{MOST_CAP, MOST_COST};
 ghost use Rattle.states.specs.Weeks.{place_cap, place_on, place_off, place_out, PlacesTo};
 ghost use Rattle.instance.specs.File.{problem};
 
-use instance::File;
 use crate::{Costs, SCALE};
+use instance::File;
 use tables::TABLES;
 
 // What unit i gives where it is ON: nothing where it is out.

@@ -25,7 +25,15 @@ pub struct Visit {
 // ---- a start judged
 
 // Tests the start of a unit: noted nogoods, then rules and cost. It holds, and the lower bound with it is this; or these units' starts are a dead end.
-pub fn test_start(file: &File, tables: &[u32; TABLES], rows: &[u64; 52], at: Visit, table: &[u32], values: &mut [u32], memo: &mut [u32]) -> Result<Euro, u32>
+pub fn test_start(
+    file: &File,
+    tables: &[u32; TABLES],
+    rows: &[u64; 52],
+    at: Visit,
+    table: &[u32],
+    values: &mut [u32],
+    memo: &mut [u32],
+) -> Result<Euro, u32>
     requires { TestStartDue file.now tables.now rows.now values.old at table.now memo.old }
     ensures answer { Judged (problem file.now) tables.now at.node at.state.limit.0 values.new result }
     ensures recalls { MemoTrue (problem file.now) (price_in tables.now) memo.new }
@@ -50,7 +58,15 @@ pub fn deeper(at: Visit, bound: Euro) -> Visit
 }
 
 // Judges the start of a unit, within the budget: where the walk goes on, or the units whose starts are a dead end.
-fn judge_start(file: &File, tables: &[u32; TABLES], rows: &[u64; 52], at: Visit, table: &[u32], values: &mut [u32], memo: &mut [u32]) -> Result<Visit, u32>
+fn judge_start(
+    file: &File,
+    tables: &[u32; TABLES],
+    rows: &[u64; 52],
+    at: Visit,
+    table: &[u32],
+    values: &mut [u32],
+    memo: &mut [u32],
+) -> Result<Visit, u32>
     requires { TryDue file.now tables.now rows.now values.old at table.now memo.old × (at.state.tries < MOST_TRIES) }
     ensures { TryTaken file.now tables.now rows.now values.old at table.now memo.old
         values.new memo.new result }
@@ -62,7 +78,13 @@ fn judge_start(file: &File, tables: &[u32; TABLES], rows: &[u64; 52], at: Visit,
 // ---- all units placed
 
 // A schedule of all units that costs less than the limit is the best so far; who is to blame that no other with their starts costs less.
-fn take_better(file: &File, tables: &[u32; TABLES], at: Visit, cost: Euro, values: &mut [u32]) -> Step
+fn take_better(
+    file: &File,
+    tables: &[u32; TABLES],
+    at: Visit,
+    cost: Euro,
+    values: &mut [u32],
+) -> Step
     requires { BetterDue file.now tables.now values.old at cost.0 }
     ensures { Better (problem file.now) at.node.starts at.state result }
 {
@@ -74,7 +96,14 @@ fn take_better(file: &File, tables: &[u32; TABLES], at: Visit, cost: Euro, value
 }
 
 // Every unit has its start: what the schedule costs, and who is to blame that no other with their starts costs less.
-pub fn close_leaf(file: &File, tables: &[u32; TABLES], rows: &[u64; 52], values: &[u32; 52], at: Visit, memo: &mut [u32]) -> Step
+pub fn close_leaf(
+    file: &File,
+    tables: &[u32; TABLES],
+    rows: &[u64; 52],
+    values: &[u32; 52],
+    at: Visit,
+    memo: &mut [u32],
+) -> Step
     requires { LeafDue file.now tables.now rows.now values.now at memo.old }
     ensures answer { Leaf (problem file.now) at.node.starts at.state result }
     ensures recalls { MemoTrue (problem file.now) (price_in tables.now) memo.new }
@@ -94,7 +123,15 @@ pub fn close_leaf(file: &File, tables: &[u32; TABLES], rows: &[u64; 52], values:
 
 // Tries the start of the node's unit, and places the next unit where it holds (D60, D91).
 #[cycle(place_try_start)]
-fn try_start(file: &File, tables: &[u32; TABLES], rows: &[u64; 52], values: &[u32; 52], at: Visit, table: &mut [u32], memo: &mut [u32]) -> Step
+fn try_start(
+    file: &File,
+    tables: &[u32; TABLES],
+    rows: &[u64; 52],
+    values: &[u32; 52],
+    at: Visit,
+    table: &mut [u32],
+    memo: &mut [u32],
+) -> Step
     requires { TryDue file.now tables.now rows.now values.now at table.old memo.old }
     ensures answer { TryDone (problem file.now) table.old table.new at result }
     ensures recalls { MemoTrue (problem file.now) (price_in tables.now) memo.new }
@@ -149,7 +186,15 @@ pub fn turn_after(step: Step, blame: u32, j: usize) -> Option<u32>
 // Tries the starts of the node's unit in turn, or weighs the schedule where all units are placed. A dead end that the unit has no share in is handed
 // up at once: that is the jump back (D3, D60, D91, D92).
 #[cycle(place_try_start)]
-pub fn place(file: &File, tables: &[u32; TABLES], rows: &[u64; 52], values: &[u32; 52], at: Visit, table: &mut [u32], memo: &mut [u32]) -> Step
+pub fn place(
+    file: &File,
+    tables: &[u32; TABLES],
+    rows: &[u64; 52],
+    values: &[u32; 52],
+    at: Visit,
+    table: &mut [u32],
+    memo: &mut [u32],
+) -> Step
     requires { PlaceDue file.now tables.now rows.now values.now at table.old memo.old }
     ensures answer { PlaceDone (problem file.now) table.old table.new at.node at.state result }
     ensures recalls { MemoTrue (problem file.now) (price_in tables.now) memo.new }

@@ -1,6 +1,6 @@
 -- `checker::judge` meets its contract: the file's refusals first, then the grid's, then its cells.
 -- Assumes nothing.
-use Rattle.std.proofs.Common.{sym, rules}
+use Rattle.std.proofs.Common.{sym}
 use Rattle.std.proofs.lemmas.Result.{err_from_is_err_and}
 use Rattle.checker.proofs.JudgingLaws.{file_refused, grid_refused, grid_full, stated, grid_judged}
 use Rattle.checker.proofs.judge.Goals as goal

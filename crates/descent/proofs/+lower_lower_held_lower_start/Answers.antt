@@ -1,9 +1,9 @@
 use Rattle.std.proofs.Common.{refl, ◌∙◌, rules, arith}
 use Rattle.descent.proofs.CallLaws.{held_passes, held_unit_due, held_lowered, held_falls}
 use Rattle.descent.proofs.CallLaws.{try_starts, try_recalls, try_long, try_given_up, try_fails, try_held, try_falls, try_held_done, try_table}
-use Rattle.descent.proofs.CallLaws.{unit_filed, unit_recalls, unit_fits, unit_whole, unit_starts}
+use Rattle.descent.proofs.CallLaws.{unit_recalls, unit_fits, unit_whole, unit_starts}
 use Rattle.descent.proofs.CallLaws.{starts_few, starts_within, starts_recalls, starts_out, starts_try, starts_fall, starts_left, starts_next}
-use Rattle.probe.proofs.TryLaws.{taken_filed, taken_dead_recalls, taken_rows}
+use Rattle.probe.proofs.TryLaws.{taken_dead_recalls, taken_rows}
 use Rattle.descent.proofs.+lower_lower_held_lower_start.Goals as goal
 
 pub lower-returns-then-file-unit : goal.lower-returns-then-file-unit

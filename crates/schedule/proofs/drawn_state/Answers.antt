@@ -1,6 +1,5 @@
 -- `schedule::drawn_state` meets its contract: byte q stands in week q / U at unit q % U.
 -- Assumes nothing.
-use Rattle.std.proofs.Common.{rules}
 use Rattle.model.proofs.VerdictLaws.{place_week, place_unit}
 use Rattle.schedule.proofs.DrawLaws.{byte_state}
 use Rattle.schedule.proofs.drawn_state.Goals as goal

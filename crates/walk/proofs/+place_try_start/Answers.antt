@@ -1,9 +1,9 @@
 use Rattle.std.proofs.Common.{refl, rules, arith}
-use Rattle.walk.proofs.CallLaws.{place_filed, place_leaf, place_weighed, place_fits, place_starts, place_long}
+use Rattle.walk.proofs.CallLaws.{place_leaf, place_weighed, place_fits, place_starts, place_long}
 use Rattle.walk.proofs.CallLaws.{starts_few, starts_small, starts_within, starts_try, starts_fall}
 use Rattle.walk.proofs.CallLaws.{starts_left, starts_next, starts_used, starts_most, starts_limit, starts_recalls, starts_done}
 use Rattle.walk.proofs.CallLaws.{try_recalls, try_long, try_fits, try_stops}
-use Rattle.walk.proofs.CallLaws.{taken_filed, taken_dead_recalls, taken_rows, taken_fails, taken_places, taken_falls, taken_placed}
+use Rattle.walk.proofs.CallLaws.{taken_dead_recalls, taken_rows, taken_fails, taken_places, taken_falls, taken_placed}
 use Rattle.walk.proofs.+place_try_start.Goals as goal
 
 pub place-close_leaf-requires : goal.place-close_leaf-requires

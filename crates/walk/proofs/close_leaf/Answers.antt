@@ -1,6 +1,6 @@
 -- `walk::close_leaf` meets its contract: the schedule is weighed against the limit.
 -- Assumes nothing.
-use Rattle.walk.proofs.JudgedLaws.{leaf_filed, leaf_right, leaf_long, leaf_rows, leaf_recalls, leaf_dear, leaf_due, leaf_better}
+use Rattle.walk.proofs.JudgedLaws.{leaf_right, leaf_long, leaf_rows, leaf_recalls, leaf_dear, leaf_due, leaf_better}
 use Rattle.walk.proofs.close_leaf.Goals as goal
 
 pub cost-cost-requires : goal.cost-cost-requires

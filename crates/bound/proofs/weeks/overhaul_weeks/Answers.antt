@@ -1,6 +1,5 @@
 -- `bound::weeks::overhaul_weeks` meets its contract: a permitted start and its weeks.
 -- Assumes nothing.
-use Rattle.std.proofs.Common.{rules}
 use Rattle.bound.proofs.TestLaws.{permitted_unit, permitted_few, permitted_some, weeks_of, weeks_fit}
 use Rattle.bound.proofs.weeks.overhaul_weeks.Goals as goal
 
