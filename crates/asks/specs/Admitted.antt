@@ -5,7 +5,7 @@ use Rattle.model.specs.Asks.{ask_count}
 use Rattle.instance.specs.declared.file.File.{File}
 use Rattle.shape.specs.Shape.{block_size}
 
--- the file's words with their layout, the asks, and how many words are lent for conflicts and for blocks
+-- an accepted file, the asks, and how many words are lent for conflicts and for blocks
 pub record Admitted (file : File) (asks : List ℕ) (table answers : ℕ) : Type 0 where
   pub few : ask_count asks ≤ 32
   pub long : 64 ≤ table

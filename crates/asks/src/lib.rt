@@ -6,8 +6,8 @@ ghost use Rattle.model.specs.Words.{VALUES};
 ghost use Rattle.model.specs.Verdict.{first_fault};
 ghost use Rattle.model.specs.Refusal.{ask_fault, asks_verdict, memory_verdict, run_verdict};
 ghost use Rattle.model.specs.Asks.{ceiling_at, budget_at};
-ghost use Rattle.decoder.specs.Answers.{fault_number, verdict_of};
 ghost use Rattle.instance.specs.File.{problem};
+ghost use Rattle.decoder.specs.Answers.{fault_number, verdict_of};
 
 use decoder::{Fault, Refusal};
 use instance::File;

@@ -11,6 +11,7 @@ ghost use Rattle.sums.specs.Table.{entry};
 ghost use Rattle.sets.specs.Sets.{SETS};
 ghost use Rattle.model.specs.Schedule.{out_in};
 ghost use Rattle.model.specs.Commitment.{out_cost, least_cost, cheapest_run};
+ghost use Rattle.instance.specs.File.{problem};
 ghost use Rattle.commitment.specs.Tally.{Tallies};
 ghost use Rattle.memo.specs.Memo.{Right, Others};
 ghost use Rattle.blame.specs.Placed.{paid, run_of};
@@ -20,7 +21,6 @@ ghost use Rattle.bound.specs.Rows.{COUNTS, MOST_WEEK, tally_of, RowsDue, RowsWit
 ghost use Rattle.bound.specs.Tests.{Judged, RootValues, Rooted};
 ghost use Rattle.bound.specs.Tests.{StartBounded, with_start, Weighing, TestDue, RootDue};
 ghost use Rattle.bound.specs.Tests.{MOST_LEAST, some_startless, Permits, RunsOf};
-ghost use Rattle.instance.specs.File.{problem};
 
 use dual::Node;
 use instance::{Euro, File};

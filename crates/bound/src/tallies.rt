@@ -1,8 +1,8 @@
 // Row words: the tally of the units out in a week as one word.
 ghost use Rattle.std.specs.Prelude.{◌≡◌, ◌<◌};
+ghost use Rattle.instance.specs.File.{problem};
 ghost use Rattle.commitment.specs.Tally.{Tallies};
 ghost use Rattle.bound.specs.Rows.{tally_of, word_of, Packs, RowJoins};
-ghost use Rattle.instance.specs.File.{problem};
 
 use commitment::Tally;
 use instance::{Euro, File};

@@ -3,13 +3,13 @@ ghost use Rattle.std.specs.Prelude.{◌≡◌, ◌+◌, ◌-◌, ◌<◌, ◌≤
 ghost use Rattle.sums.specs.NumSet.{has};
 ghost use Rattle.sums.specs.Table.{entry};
 ghost use Rattle.model.specs.Commitment.{NO_RUN};
+ghost use Rattle.instance.specs.File.{problem};
 ghost use Rattle.commitment.specs.Tally.{Tallies};
 ghost use Rattle.tables.specs.Tables.{price_in};
 ghost use Rattle.relaxation.specs.Relaxed.{WeekAt, MemoTrue};
 ghost use Rattle.bound.specs.Tests.{WeekDue, OutTested, WeekTested, WeeksTested, Tested};
 ghost use Rattle.bound.specs.Tests.{StartPermitted, OverhaulWeeks, StartDue, WeeksDue};
 ghost use Rattle.bound.specs.Tests.{MOST_BOUND};
-ghost use Rattle.instance.specs.File.{problem};
 
 use crate::tallies;
 use commitment::Tally;

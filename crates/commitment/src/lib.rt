@@ -7,12 +7,12 @@ ghost use Rattle.std.specs.Prelude.{◌≡◌, ◌||◌, ℕ, ◌+◌, ◌-◌, 
 ghost use Rattle.sums.specs.NumSet.{has, with};
 ghost use Rattle.model.specs.Rules.{output};
 ghost use Rattle.model.specs.Commitment.{line_cost, full_cost, full_least, NO_RUN};
+ghost use Rattle.instance.specs.File.{problem};
 ghost use Rattle.cover.specs.Cover.{UNCOVERED};
 ghost use Rattle.cover.specs.Tables.{MOST_WEIGHT, Caps, Weights};
 ghost use Rattle.commitment.specs.Tally.{no_tally, Tallies};
 ghost use Rattle.commitment.specs.Score.{SCALE, scored, cost_in, number_in, weight_of, thrifty_at, ThriftyRun, LeastWeight, LeastScore, Column};
 ghost use Rattle.commitment.specs.Answers.{Answers};
-ghost use Rattle.instance.specs.File.{problem};
 
 use cover::UNCOVERED;
 use instance::{Euro, File, Kilo};

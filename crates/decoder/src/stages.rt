@@ -191,6 +191,7 @@ fn pass(words: &[u32], q: usize, s: Stage) -> usize
     let low = kind_floor(words[q]);
     let end = s.next.min(words.len());
     let mut p = q + 1;
+    // Not a `for`: the end may lie before the next word, and then that word's place is the answer.
     while p < end {
         let distance = words[p].wrapping_sub(low);
         if most < distance {

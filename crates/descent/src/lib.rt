@@ -4,10 +4,10 @@
 #![tactic(auto)]
 
 ghost use Rattle.std.specs.Prelude.{◌≡◌, ◌<◌, ◌≤◌};
+ghost use Rattle.instance.specs.File.{problem};
 ghost use Rattle.tables.specs.Tables.{price_in};
 ghost use Rattle.relaxation.specs.Relaxed.{MemoTrue};
 ghost use Rattle.descent.specs.Descent.{DescentDue, Descended, UnitDue, TryDue, HeldDue, Told, Found, UnitDone, TryDone, HeldDone, IsAt, Keeps};
-ghost use Rattle.instance.specs.File.{problem};
 
 use dual::Node;
 use instance::{Euro, File};

@@ -8,13 +8,13 @@ ghost use Rattle.sums.specs.NumSet.{has};
 ghost use Rattle.sums.specs.Table.{entry};
 ghost use Rattle.model.specs.Domain.{permitted};
 ghost use Rattle.model.specs.Nogood.{MOST_LIMIT};
+ghost use Rattle.instance.specs.File.{problem};
 ghost use Rattle.blame.specs.Priced.{priced};
 ghost use Rattle.tables.specs.Tables.{TABLES, AMOUNTS, price_in, total_in, Priced};
 ghost use Rattle.relaxation.specs.Relaxed.{MemoTrue};
 ghost use Rattle.dual.specs.Dual.{MOST_OVERHAUL, MOST_SPAN, span_sum, Dual, LeastFrom};
 ghost use Rattle.dual.specs.Made.{UnitAt, StartAt, CostsMade, CostsTo, RootsMade};
 ghost use Rattle.dual.specs.Blame.{MOST_WANTED, IsNext, with_bound, Bounded, Blamed, OverhaulAt, gain_in, loss_of, BackTo, PutBack, Dropping, MayDrop, Dropped, Shrunk};
-ghost use Rattle.instance.specs.File.{problem};
 
 use instance::{Euro, File};
 use tables::{ROOT_VALUES, START_COSTS, TABLES, TOTAL};
@@ -320,16 +320,12 @@ fn shrink_blame(
     ensures { Shrunk (problem file.now) tables.now (has node.placed) (entry node.starts) wanted.0 result }
 {
     let starts = node.starts;
-    let sum = node.bound;
-    let mut i = file.layout.units;
     let mut kept = BlameLeft {
         units: node.placed,
-        sum,
+        sum: node.bound,
     };
-    while 0 < i {
-        i -= 1;
-        let next = try_drop(file, tables, starts, i, wanted, kept, values);
-        kept = next;
+    for i in (0..file.layout.units).rev() {
+        kept = try_drop(file, tables, starts, i, wanted, kept, values);
     }
     kept
 }

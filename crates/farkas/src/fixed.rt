@@ -1,10 +1,10 @@
 // Three tables of prices that need no search, and the test at each: a price where the overhaul of a unit takes a week whatever its start, where it may
 // take it, and the same by what the unit gives.
 ghost use Rattle.std.specs.Prelude.{◌≡◌, ◌<◌, ◌≤◌};
+ghost use Rattle.instance.specs.File.{problem};
 ghost use Rattle.tables.specs.Tables.{MOST_PRICE, Prices};
 ghost use Rattle.farkas.specs.Sums.{ShowsNone};
 ghost use Rattle.prices.specs.Ranges.{PricedFile, Moved};
-ghost use Rattle.instance.specs.File.{problem};
 
 use crate::{shows_none, week};
 use instance::{File, Kilo};

@@ -7,12 +7,12 @@
 
 ghost use Rattle.std.specs.Prelude.{◌≡◌, ◌*◌, ◌<◌, ◌≤◌};
 ghost use Rattle.sums.specs.Sum.{row_sum};
+ghost use Rattle.instance.specs.File.{problem};
 ghost use Rattle.tables.specs.Tables.{MOST_WEEK_PRICES, price_in, Prices};
 ghost use Rattle.blame.specs.Priced.{price_sum};
 ghost use Rattle.blame.specs.Free.{UnitFree, WeekFree};
 ghost use Rattle.prices.specs.Ranges.{PricedFile};
 ghost use Rattle.farkas.specs.Sums.{MOST_FREE, Summed, ShowsNone};
-ghost use Rattle.instance.specs.File.{problem};
 
 use instance::{Euro, File};
 use model::Layout;

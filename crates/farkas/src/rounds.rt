@@ -2,10 +2,10 @@
 // steps. They keep their scale so; added steps shrink all prices together, which looks like progress and shows nothing.
 ghost use Rattle.std.specs.Prelude.{◌≡◌, ◌+◌, ◌<◌, ◌≤◌};
 ghost use Rattle.sums.specs.Table.{AtMost};
+ghost use Rattle.instance.specs.File.{problem};
 ghost use Rattle.tables.specs.Tables.{MOST_PRICE, Prices};
 ghost use Rattle.farkas.specs.Sums.{ShowsNone};
 ghost use Rattle.prices.specs.Ranges.{LEVEL, MOST_PUSH, PricedFile, Moved};
-ghost use Rattle.instance.specs.File.{problem};
 
 use crate::fixed::{Pricing, fixed_prices};
 use crate::shows_none;

@@ -1,10 +1,10 @@
 // An overhaul on the free plant: what the prices of its weeks come to at least.
 ghost use Rattle.std.specs.Prelude.{◌≡◌, ◌≤◌};
+ghost use Rattle.instance.specs.File.{problem};
 ghost use Rattle.tables.specs.Tables.{price_in, Priced};
 ghost use Rattle.blame.specs.Free.{span_price, UnitFree};
 ghost use Rattle.dual.specs.Made.{UnitAt, StartAt};
 ghost use Rattle.farkas.specs.Sums.{MOST_SPAN_PRICE, Lower};
-ghost use Rattle.instance.specs.File.{problem};
 
 use instance::{Euro, File};
 use tables::TABLES;

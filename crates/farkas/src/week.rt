@@ -4,10 +4,10 @@ ghost use Rattle.std.specs.Prelude.{◌≡◌, ◌+◌, ◌*◌, ◌<◌, ◌≤
 ghost use Rattle.sums.specs.Sum.{sum_to};
 ghost use Rattle.sums.specs.NumSet.{has};
 ghost use Rattle.sums.specs.Table.{entry};
+ghost use Rattle.instance.specs.File.{problem};
 ghost use Rattle.blame.specs.Free.{WeekFree};
 ghost use Rattle.tables.specs.Tables.{MOST_PRICE, MOST_WEEK_PRICES, price_in};
 ghost use Rattle.farkas.specs.Choices.{NEVER, TOP, CAPS, NO_WEEK, NeverTo, NeverDue, OpenPrice, UnitAdded, SumsDue, AtRoot, FreeAt, Savable, NodeDue, NodeAt, TryAt, StayDue, NodeFloor, NodeDone, Seen, Stays, Leaves, OutTried};
-ghost use Rattle.instance.specs.File.{problem};
 
 use instance::{Euro, File, Kilo};
 use tables::TABLES;

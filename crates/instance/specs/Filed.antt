@@ -1,4 +1,4 @@
--- What the accessors ask of a file's words and its layout, in the plain numbers that their sums and places need.
+-- What is true of an accepted file's words and their layout, in the plain numbers that sums and places need.
 -- Assumes nothing.
 use Rattle.std.specs.Prelude.{ℕ, ◌+◌, ◌*◌, ◌≤◌, ◌<◌, ◌≡◌, List, length}
 use Rattle.model.specs.declared.Layout.{Layout}

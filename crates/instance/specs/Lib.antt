@@ -1,4 +1,4 @@
--- what the accessors ask of words and layout
+-- what is true of an accepted file
 pub mod Filed
 -- the problem that an accepted file means
 pub mod File

@@ -16,7 +16,8 @@ mod file;
 #[derive(Clone, Copy, PartialEq, Eq, PartialOrd, Ord)]
 pub struct Euro(pub u64);
 
-// Kilograms of dry matter: what a demand or a capacity is, and what sums over outputs take and return.
+// Kilograms of dry matter: what a demand or a capacity is, and what sums over outputs take and return. A type of its own beside Euro, and not one
+// with a parameter, as document 01 names the form.
 #[derive(Clone, Copy, PartialEq, Eq, PartialOrd, Ord)]
 pub struct Kilo(pub u64);
 

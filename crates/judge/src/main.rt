@@ -7,7 +7,7 @@ ghost use Rattle.std.specs.Prelude.{◌≤◌, length, IfOk};
 use std::io;
 use std::io::{Print, Read, Stdin};
 
-// Reads until the buffer is full or the input ends: how many bytes stand at its front.
+// Reads until the buffer is full or the input ends: how many bytes stand at its front. It stands in both programs, since only they may read (D109).
 fn read_full(input: &mut Stdin, bytes: &mut [u8]) -> io::Result<usize>
     ensures { IfOk result (λ n. n ≤ length bytes.new) }
 {

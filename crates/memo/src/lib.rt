@@ -7,8 +7,8 @@ ghost use Rattle.std.specs.Prelude.{◌≡◌, ◌+◌, ◌*◌, ◌<◌, ◌≤
 ghost use Rattle.sums.specs.NumSet.{has};
 ghost use Rattle.model.specs.Commitment.{least_cost, full_least, NO_RUN};
 ghost use Rattle.sets.specs.Sets.{SETS};
-ghost use Rattle.memo.specs.Memo.{Looked, Wrote, Others, key_of, Right};
 ghost use Rattle.instance.specs.File.{problem};
+ghost use Rattle.memo.specs.Memo.{Looked, Wrote, Others, key_of, Right};
 
 use instance::{Euro, File};
 use model::NO_RUN;

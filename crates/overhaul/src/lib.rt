@@ -5,9 +5,9 @@
 ghost use Rattle.std.specs.Prelude.{◌≡◌, true, ◌<◌, ◌≤◌};
 ghost use Rattle.model.specs.Domain.{permitted};
 ghost use Rattle.model.specs.Plan.{upkeep};
+ghost use Rattle.instance.specs.File.{problem};
 ghost use Rattle.overhaul.specs.Range.{last_start, StartRange};
 ghost use Rattle.overhaul.specs.Off.{off_weeks};
-ghost use Rattle.instance.specs.File.{problem};
 
 use instance::{Euro, File};
 

@@ -4,13 +4,13 @@
 
 ghost use Rattle.std.specs.Prelude.{◌≡◌, ◌+◌, ◌<◌, length, replicate};
 ghost use Rattle.model.specs.Asks.{Answered, Ran};
+ghost use Rattle.instance.specs.File.{problem};
 ghost use Rattle.decoder.specs.Answers.{verdict_of};
 ghost use Rattle.tables.specs.Tables.{TABLES, First};
 ghost use Rattle.walk.specs.Walk.{Walking};
 ghost use Rattle.asks.specs.Admitted.{Admitted};
 ghost use Rattle.planner.specs.Carry.{SaysNothing, SaysNone, with_used, Remembered};
 ghost use Rattle.planner.specs.Due.{OpenDue, ReplyDue, Told, PutDue, TurnPut, StartDue};
-ghost use Rattle.instance.specs.File.{problem};
 
 use decoder::Refusal;
 use farkas::Findings;

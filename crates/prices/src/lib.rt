@@ -7,10 +7,10 @@
 
 ghost use Rattle.std.specs.Prelude.{◌<◌, IfSome};
 ghost use Rattle.sums.specs.Table.{AtMost};
+ghost use Rattle.instance.specs.File.{problem};
 ghost use Rattle.memo.specs.Memo.{Right, Others};
 ghost use Rattle.tables.specs.Tables.{First, Priced};
 ghost use Rattle.prices.specs.Ranges.{MOST_BOUND, MOST_PUSH, PricedFile, ProgressInRange, OneOf};
-ghost use Rattle.instance.specs.File.{problem};
 
 use effort::Work;
 use instance::File;

@@ -1,10 +1,10 @@
 // What units and weeks want at the prices of a round: a unit the start that costs it least, a week the units out with which its value is least.
 ghost use Rattle.std.specs.Prelude.{◌≡◌, IfSome, ◌+◌, ◌*◌, ◌<◌, ◌≤◌};
 ghost use Rattle.model.specs.Commitment.{NO_RUN};
+ghost use Rattle.instance.specs.File.{problem};
 ghost use Rattle.memo.specs.Memo.{Right, Others};
 ghost use Rattle.tables.specs.Tables.{MOST_PRICE};
 ghost use Rattle.prices.specs.Ranges.{MOST_BOUND, MOST_FIRST_COST, MOST_UNIT_COST, PricedFile};
-ghost use Rattle.instance.specs.File.{problem};
 
 use crate::effort;
 use crate::effort::Work;

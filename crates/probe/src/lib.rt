@@ -6,12 +6,12 @@
 
 ghost use Rattle.std.specs.Prelude.{◌<◌, ◌≤◌, length};
 ghost use Rattle.model.specs.Nogood.{MOST_LIMIT};
+ghost use Rattle.instance.specs.File.{problem};
 ghost use Rattle.tables.specs.Tables.{price_in};
 ghost use Rattle.relaxation.specs.Relaxed.{MemoTrue};
 ghost use Rattle.state.specs.State.{MOST_TRIES, DeadEndNoted};
 ghost use Rattle.walk.specs.Walk.{AtRoot, Deeper};
 ghost use Rattle.probe.specs.Probe.{Chosen, IsStart, PlaceDue, StartDue, StartTaken, WeighDue, Weighed, Stops, PlaceDone, StartDone, RootDone, ProbeDue};
-ghost use Rattle.instance.specs.File.{problem};
 
 use dual::Node;
 use instance::{Euro, File};

@@ -6,11 +6,11 @@ ghost use Rattle.std.specs.Prelude.{◌≡◌, ◌<◌, ◌≤◌, length};
 ghost use Rattle.model.specs.Verdict.{accepted};
 ghost use Rattle.model.specs.Reading.{read_of};
 ghost use Rattle.model.specs.Words.{problem_of};
+ghost use Rattle.instance.specs.File.{problem};
 ghost use Rattle.decoder.specs.Answers.{verdict_of};
 ghost use Rattle.memo.specs.Memo.{Right};
 ghost use Rattle.quotes.specs.Quotes.{quote_with, run_quote, start_quote, upkeep_quote, query_cost, costs_verdict, costs_into, KeptIfRefused};
 ghost use Rattle.quotes.specs.Answers.{quote_of, quoted_of};
-ghost use Rattle.instance.specs.File.{problem};
 
 use decoder::{Fault, Refusal};
 use instance::File;

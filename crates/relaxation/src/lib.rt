@@ -8,12 +8,12 @@
 ghost use Rattle.std.specs.Prelude.{◌≡◌, true, false, ◌+◌, ◌<◌, ◌≤◌, get_or};
 ghost use Rattle.sums.specs.NumSet.{has};
 ghost use Rattle.model.specs.Commitment.{NO_RUN, full_least};
+ghost use Rattle.instance.specs.File.{problem};
 ghost use Rattle.tables.specs.Tables.{MOST_WEEK_PRICES, price_in, partners_in, Prices};
 ghost use Rattle.blame.specs.Priced.{WeekLeast};
 ghost use Rattle.memo.specs.Memo.{Right, Others};
 ghost use Rattle.relaxation.specs.Relaxed.{WeekAt, Value, MemoTrue};
 ghost use Rattle.relaxation.specs.Choosing.{MOST_VALUE, Floor, Lowers, NoGain, NodeKnown, Skipped, Child, WithUnit, Beginning, RootNode, Choosing};
-ghost use Rattle.instance.specs.File.{problem};
 
 use instance::{Euro, File};
 use model::NO_RUN;

@@ -2,10 +2,10 @@
 ghost use Rattle.std.specs.Prelude.{◌≡◌, ◌||◌, ℕ, ◌+◌, ◌<◌, ◌≤◌, eqb};
 ghost use Rattle.sums.specs.Sum.{counts_one};
 ghost use Rattle.sums.specs.NumSet.{has, only_in, complement};
+ghost use Rattle.instance.specs.File.{problem};
 ghost use Rattle.tables.specs.Tables.{MOST_WEEK_PRICES, price_in, Prices};
 ghost use Rattle.relaxation.specs.Relaxed.{WeekAt};
 ghost use Rattle.relaxation.specs.Choosing.{NeedlessUnits, PricesLeft, CrewsLeft};
-ghost use Rattle.instance.specs.File.{problem};
 
 use instance::File;
 use tables::TABLES;

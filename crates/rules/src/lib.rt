@@ -1,7 +1,7 @@
-// Formulas (1) to (8) tested on a grid, each by loops over weeks, units or pairs that are left at a breach. Every test takes an accepted
-// file's words, a grid with a byte for each week and unit, and the file's layout. Weeks, units and pairs count from 0.
-// `weekly` has the formulas that add up the units of a week, `cells` those that look at one unit in one week, `spans` those that look at the weeks
-// from the first to the last in which a unit is in maintenance, and here all are asked in turn: start at `broken`.
+// Formulas (1) to (8) tested on a grid of an accepted file, each by loops over weeks, units or pairs that are left at a breach. Weeks, units and
+// pairs count from 0. A cell's state stays a number: a grid may hold any bytes, and the formulas are asked of all.
+// `grid` has the grid, `weekly` the formulas that add up the units of a week, `cells` those that look at one unit in one week, `spans` those that
+// look at the weeks from the first to the last in which a unit is in maintenance, and here all are asked in turn: start at `broken`.
 #![tactic(auto)]
 
 ghost use Rattle.std.specs.Prelude.{◌≡◌, ◌*◌, ◌<◌, ◌≤◌};

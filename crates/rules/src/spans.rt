@@ -26,12 +26,10 @@ fn end_out(grid: &Grid, i: usize) -> usize
     requires { i < grid.now.file.layout.units }
     ensures { EndOut grid.now.file.layout.weeks (states grid.now) i result }
 {
-    let mut t = grid.file.layout.weeks;
-    while 0 < t {
-        if grid.state(t - 1, i) == 2 {
-            return t;
+    for t in (0..grid.file.layout.weeks).rev() {
+        if grid.state(t, i) == 2 {
+            return t + 1;
         }
-        t -= 1;
     }
     0
 }

@@ -8,8 +8,8 @@ ghost use Rattle.model.specs.Grid.{state_at};
 ghost use Rattle.model.specs.Schedule.{schedule_of, in_span, lay_out};
 ghost use Rattle.model.specs.Verdict.{accepted};
 ghost use Rattle.model.specs.Drawing.{draw_verdict, drawn_into};
-ghost use Rattle.decoder.specs.Answers.{verdict_of};
 ghost use Rattle.instance.specs.File.{problem};
+ghost use Rattle.decoder.specs.Answers.{verdict_of};
 
 use decoder::{Fault, Refusal};
 use instance::File;

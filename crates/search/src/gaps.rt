@@ -1,11 +1,11 @@
 // Probes at gaps: at ceilings that rise from the root's bound; and between them, where they are in vain, what the free plant shows.
 ghost use Rattle.std.specs.Prelude.{◌+◌, ◌<◌, ◌≤◌, ◌≡◌};
 ghost use Rattle.model.specs.Nogood.{MOST_LIMIT};
+ghost use Rattle.instance.specs.File.{problem};
 ghost use Rattle.bound.specs.Tests.{RootDue};
 ghost use Rattle.prices.specs.Ranges.{PricedFile};
 ghost use Rattle.farkas.specs.Sums.{ShowsNone};
 ghost use Rattle.search.specs.Walks.{SearchDue, OutcomeOf, FirstTurn, probe_of, AfterVain, VainOn, GapAt, GapNext, GapsDone};
-ghost use Rattle.instance.specs.File.{problem};
 
 use farkas::Findings;
 use instance::{Euro, File};

@@ -7,6 +7,7 @@
 
 ghost use Rattle.std.specs.Prelude.{◌≡◌, true};
 ghost use Rattle.sums.specs.Table.{entry};
+ghost use Rattle.instance.specs.File.{problem};
 ghost use Rattle.tables.specs.Tables.{price_in};
 ghost use Rattle.relaxation.specs.Relaxed.{MemoTrue};
 ghost use Rattle.bound.specs.Tests.{some_startless, Permits, RunsOf};
@@ -14,7 +15,6 @@ ghost use Rattle.state.specs.State.{dead_at};
 ghost use Rattle.farkas.specs.Sums.{ShowsNone};
 ghost use Rattle.search.specs.Walks.{SearchDue, SearchDone};
 ghost use Rattle.search.specs.Ask.{ReplyOfDue, ReplyOf, AskDue, AskSearched, Asked};
-ghost use Rattle.instance.specs.File.{problem};
 
 use farkas::Findings;
 use instance::File;

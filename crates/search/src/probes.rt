@@ -1,11 +1,11 @@
 // The walks of an ask: from where the probes at gaps have come one at the ask's own ceiling, the descent from a plan, and the last walk.
 ghost use Rattle.std.specs.Prelude.{◌≡◌};
+ghost use Rattle.instance.specs.File.{problem};
 ghost use Rattle.tables.specs.Tables.{price_in};
 ghost use Rattle.relaxation.specs.Relaxed.{MemoTrue};
 ghost use Rattle.state.specs.State.{renewed_at, improved_by, dead_at};
 ghost use Rattle.walk.specs.Walk.{AtRoot, WalkDue, Finished};
 ghost use Rattle.search.specs.Walks.{SearchDue, SearchDone, GoingDue, PlanDue, CeilingDue, VainDue, Settles, Concludes};
-ghost use Rattle.instance.specs.File.{problem};
 
 use crate::gaps;
 use crate::gaps::{Outcome, Probes};

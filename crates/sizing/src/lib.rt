@@ -20,6 +20,7 @@ fn space_bound(w: usize, u: usize) -> usize
 {
     let mut power = 1;
     let mut sum = 0;
+    // The counter is for the invariant alone, which has to name it.
     for j in 0..u {
         power = MOST_FIGURE.min(power * w);
         sum = MOST_FIGURE.min(sum + power);

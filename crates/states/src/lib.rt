@@ -7,12 +7,12 @@
 
 ghost use Rattle.std.specs.Prelude.{◌≡◌, ◌⊎◌, ◌+◌, ◌-◌, ◌*◌, ◌<◌, ◌≤◌};
 ghost use Rattle.sums.specs.NumSet.{has};
+ghost use Rattle.instance.specs.File.{problem};
 ghost use Rattle.blame.specs.Priced.{WeekLeast};
 ghost use Rattle.tables.specs.Tables.{price_in};
 ghost use Rattle.states.specs.Choices.{ChoiceFloor};
 ghost use Rattle.states.specs.SearchTables.{CostsInRange, MOST_SCORE, places_of};
 ghost use Rattle.states.specs.Weeks.{SCALE, WeekNodeIs, WeekDue};
-ghost use Rattle.instance.specs.File.{problem};
 
 use instance::{Euro, File};
 use tables::TABLES;

@@ -1,10 +1,10 @@
 // The table of costs of a week: what each unit gives and what its states cost, and its partners.
 ghost use Rattle.std.specs.Prelude.{◌≡◌, ◌*◌, ◌<◌, ◌≤◌};
 ghost use Rattle.sums.specs.NumSet.{has};
+ghost use Rattle.instance.specs.File.{problem};
 ghost use Rattle.tables.specs.Tables.{price_in, Prices};
 ghost use Rattle.states.specs.SearchTables.{MOST_CAP, MOST_COST};
 ghost use Rattle.states.specs.Weeks.{place_cap, place_on, place_off, place_out, PlacesTo};
-ghost use Rattle.instance.specs.File.{problem};
 
 use crate::{Costs, SCALE};
 use instance::File;

@@ -5,8 +5,8 @@
 
 ghost use Rattle.std.specs.Prelude.{◌≡◌, ◌+◌, ◌*◌, ◌<◌, ◌≤◌};
 ghost use Rattle.sums.specs.Sum.{sum_to};
-ghost use Rattle.tables.specs.Tables.{MOST_PRICE, AMOUNTS, price_in, partners_in, off_in, excess_in, root_in, total_in, hard_in, unit_total, Prices, First};
 ghost use Rattle.instance.specs.File.{problem};
+ghost use Rattle.tables.specs.Tables.{MOST_PRICE, AMOUNTS, price_in, partners_in, off_in, excess_in, root_in, total_in, hard_in, unit_total, Prices, First};
 
 use instance::{Euro, File};
 use model::Layout;

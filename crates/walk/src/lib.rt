@@ -3,12 +3,12 @@
 #![tactic(auto)]
 
 ghost use Rattle.std.specs.Prelude.{◌<◌, ◌≤◌};
+ghost use Rattle.instance.specs.File.{problem};
 ghost use Rattle.tables.specs.Tables.{price_in};
 ghost use Rattle.relaxation.specs.Relaxed.{MemoTrue};
 ghost use Rattle.state.specs.State.{MOST_TRIES};
 ghost use Rattle.bound.specs.Tests.{Judged};
 ghost use Rattle.walk.specs.Walk.{IsStart, PlaceDue, TryDue, TestStartDue, Deeper, TryTaken, PlaceDone, TryDone, Shares, TurnOf, LeafDue, BetterDue, Better, Leaf};
-ghost use Rattle.instance.specs.File.{problem};
 
 use dual::Node;
 use instance::{Euro, File};
@@ -207,6 +207,7 @@ pub fn place(
     let mut s = at.state;
     let mut blame = 0;
     // Each time round, no schedule with the starts of the units to blame and a start of this unit below v is left below the limit.
+    // Not `..=`, which leaves by two ways, so that each goal behind the loop would stand twice.
     for v in range.first..range.last + 1 {
         let next = with_start(node, v, s);
         let step = try_start(file, tables, rows, values, next, table, memo);

@@ -5,8 +5,8 @@ use Rattle.dual.proofs.shrink_blame.Goals as goal
 pub loop-i-init : goal.loop-i-init
 loop-i-init c = (refl, search thinning_start)
 
-pub try_drop-next-requires : goal.try_drop-next-requires
-try_drop-next-requires c = search thinning_drops
+pub try_drop-kept-requires : goal.try_drop-kept-requires
+try_drop-kept-requires c = search thinning_drops
 
 pub loop-i-preserved : goal.loop-i-preserved
 loop-i-preserved c = (search rules, search thinning_next)

@@ -7,6 +7,3 @@ use Rattle.dual.proofs.shrink_blame.Given as goal
 
 abbrev pub invariant-loop-i : goal.invariant-loop-i
 invariant-loop-i l = (length l.values ≡ length l.initial.values) × Thinning l.file l.tables (has l.initial.kept.units) l.starts l.wanted.0 l.i l.kept l.values
-
-abbrev pub decreases-loop-i : goal.decreases-loop-i
-decreases-loop-i l = l.i

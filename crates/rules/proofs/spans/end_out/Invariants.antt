@@ -7,6 +7,3 @@ use Rattle.rules.proofs.spans.end_out.Given as goal
 
 abbrev pub invariant-loop-t : goal.invariant-loop-t
 invariant-loop-t l = (l.t ≤ l.grid.file.layout.weeks) × NoneFrom l.grid.file.layout.weeks (states l.grid) l.i l.t
-
-abbrev pub decreases-loop-t : goal.decreases-loop-t
-decreases-loop-t l = l.t
