@@ -141,7 +141,7 @@ module _ (file : File) (us asks lent table₀ answers table : List ℕ) (m : Car
   runs_ended n e a b = going_answered (problem file) asks lent answers table m k n h.going a b e
 
 -- it may begin
-pub starts : (file : File) (us asks : List ℕ) (shown : Bool) (answers table memo : List ℕ) → Admitted file.words.now file.layout asks (length table) (length answers)
+pub starts : (file : File) (us asks : List ℕ) (shown : Bool) (answers table memo : List ℕ) → Admitted file asks (length table) (length answers)
     → table ≡ replicate (length table) 0 → Walking file us memo → ShowsNone (problem file) shown → StartDue file us asks shown answers table memo
 unfolding StartDue
 starts file us asks shown answers table memo ok none walking known = record { admitted = ok; emptied = none; walking = walking; none = known }

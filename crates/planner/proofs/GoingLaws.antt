@@ -158,7 +158,7 @@ module _ (p : Problem) (asks lent answers table : List ℕ) (m : Carry) (k : ℕ
         settled_by_lem = settled_more;
       }
 
-module _ (file : File) (asks : List ℕ) (k lent room : ℕ) (ok : Admitted file.words.now file.layout asks lent room) (less : k < ask_count asks) where
+module _ (file : File) (asks : List ℕ) (k lent room : ℕ) (ok : Admitted file asks lent room) (less : k < ask_count asks) where
   -- there is room for its block
   pub ask_placed : Placed file.layout k room
   ask_placed =
@@ -256,7 +256,7 @@ going_answered p asks lent answers table m k n h l g e =
 -- ---- the lent words keep their lengths
 
 -- what a run has that was not turned away, it has all along
-pub admitted_still : (file : File) (asks : List ℕ) (t n t' n' : ℕ) → Admitted file.words.now file.layout asks t n → t' ≡ t → n' ≡ n → Admitted file.words.now file.layout asks t' n'
+pub admitted_still : (file : File) (asks : List ℕ) (t n t' n' : ℕ) → Admitted file asks t n → t' ≡ t → n' ≡ n → Admitted file asks t' n'
 admitted_still file asks t n t' n' h e f = record { few = h.few; long = omega (arith, h.long); room = omega (arith, h.room) }
 
 -- an emptied list is as long as it was
@@ -268,8 +268,8 @@ pub cleared_all : (w d : List ℕ) → w ≡ replicate (length d) 0 → w ≡ re
 cleared_all w d e = e ∙ ap (λ (n : ℕ). replicate n 0) (sym (cleared_long w d e))
 
 -- a run is admitted with it still
-pub cleared_admitted : (file : File) (asks w d : List ℕ) (n : ℕ) → Admitted file.words.now file.layout asks (length d) n → w ≡ replicate (length d) 0
-    → Admitted file.words.now file.layout asks (length w) n
+pub cleared_admitted : (file : File) (asks w d : List ℕ) (n : ℕ) → Admitted file asks (length d) n → w ≡ replicate (length d) 0
+    → Admitted file asks (length w) n
 cleared_admitted file asks w d n ok e = admitted_still file asks (length d) n (length w) n ok (cleared_long w d e) refl
 
 -- and what keeps its length has the old one

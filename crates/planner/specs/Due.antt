@@ -62,7 +62,7 @@ pub record TurnPut (l : Layout) (asks : List ℕ) (k : ℕ) (m : Carry) (told : 
 
 -- a run may begin, with an emptied table
 pub record Starting (file : File) (us asks : List ℕ) (shown : Bool) (answers table memo : List ℕ) : Type 0 where
-  pub admitted : Admitted file.words.now file.layout asks (length table) (length answers)
+  pub admitted : Admitted file asks (length table) (length answers)
   pub emptied : table ≡ replicate (length table) 0
   pub walking : Walking file us memo
   pub none : ShowsNone (problem file) shown
@@ -72,7 +72,7 @@ StartDue file us asks shown answers table memo = Starting file us asks shown ans
 
 -- a run with answers and a table as they were lent, after its first k asks
 pub record Running (file : File) (us asks lent table₀ answers table : List ℕ) (m : Carry) (shown : Bool) (k : ℕ) (memo : List ℕ) : Type 0 where
-  pub admitted : Admitted file.words.now file.layout asks (length table₀) (length lent)
+  pub admitted : Admitted file asks (length table₀) (length lent)
   pub walking : Walking file us memo
   pub going : Going (problem file) asks lent answers table m k
   pub long : length table ≡ length table₀
