@@ -16,7 +16,8 @@ use Rattle.model.specs.Program.{input_words, input_file, input_asks, Planned, re
 use Rattle.std.specs.Prelude.{Ok, Err}
 use Rattle.decoder.specs.declared.faults.Refusal.{Refusal}
 use Rattle.input.proofs.LoadedLaws.{load_refused, load_accepted, load_front}
-use Rattle.asks.proofs.VerdictLaws.{run_admitted}
+use Rattle.instance.proofs.FiledLaws.{file_of}
+use Rattle.asks.proofs.VerdictLaws.{run_reads, run_admitted}
 use Rattle.intake.specs.Answers.{RanFile, Sized}
 use Rattle.intake.specs.Buffers.{input_verdict, RanInput}
 
@@ -53,8 +54,16 @@ module _ (file asks a₀ t₀ s₀ a t s : List ℕ) where
     pub planned_sized : Sized (length a₀) (Ok record { asks = length asks / 2; units = l.units; weeks = l.weeks })
     unfolding ask_count
     planned_sized =
-        let ok = run_admitted file asks (length t₀) (length a₀) (length s₀) ran.told l laid in
-        record { by = record { units = ok.filed.units_most; weeks = ok.filed.weeks_most; few = ok.few; within = ok.room } }
+        let f = file_of file (run_reads file asks (length t₀) (length a₀) (length s₀) ran.told) in
+        let ok = run_admitted file asks (length t₀) (length a₀) (length s₀) f refl ran.told in
+        record {
+          by = record {
+            units = rw laid f.filed.units_most;
+            weeks = rw laid f.filed.weeks_most;
+            few = ok.few;
+            within = rw laid ok.room;
+          };
+        }
 
 -- nothing has to stand anywhere where the input is turned away
 pub refused_sized : (words : ℕ) (r : Refusal) → Sized words (Err r)
