@@ -29,7 +29,7 @@ pub enum Judgement {
 // ---- formula (9)
 
 // Week t's row of the table of costs that a state names, MAINT or ON.
-fn row_for<'a>(file: &'a File<'a>, t: usize, state: u8) -> &'a [u32]
+fn row_for<'a>(file: &File<'a>, t: usize, state: u8) -> &'a [u32]
     requires { t < file.now.layout.weeks }
     ensures { result.now ≡ row_of file.now.layout.units t (table_for state (maints_of file.now.layout file.now.words.now)
         (runnings_of file.now.layout file.now.words.now)) }

@@ -26,13 +26,14 @@ use Rattle.std.proofs.Common.{Result, Ok, Err}
 use Rattle.bound.specs.Rows.{RowsWith}
 use Rattle.bound.specs.Tests.{Blames}
 use Rattle.state.specs.declared.State.{State}
+use Rattle.state.specs.declared.Step.{Step}
 use Rattle.state.specs.State.{tried_once}
 use Rattle.walk.specs.Walk.{Carried, Walking}
 use Rattle.walk.proofs.StateLaws.{carried_same, carried_next, held_carried}
 use Rattle.walk.proofs.PlaceLaws.{put_here, put_below}
 use Rattle.walk.proofs.TryLaws.{joined_order, order_next}
 use Rattle.probe.specs.declared.Visit.{Visit}
-use Rattle.probe.specs.Probe.{Opened, PlaceDue, StartDue, Judging, Taken, StartTaken, IsStart, start_at}
+use Rattle.probe.specs.Probe.{Opened, PlaceDue, StartDue, Taken, Refuted, StartTaken, IsStart, start_at}
 use Rattle.probe.proofs.OpenLaws.{startable_at}
 use Rattle.probe.proofs.UnitLaws.{tried_none}
 use Rattle.probe.proofs.TryLaws.{taken, taken_places}
@@ -103,15 +104,15 @@ module _ (file : File) (us rows ys : List ℕ) (at : Visit) (w memo : List ℕ) 
     fails = λ z. next_spent Spent z refl;
   })
 
-  module _ (zs memo₁ : List ℕ) (r : Result Visit ℕ) (j : StartTaken file us rows ys at w memo zs memo₁ r) where
+  module _ (zs memo₁ : List ℕ) (r : Result Visit Step) (j : StartTaken file us rows ys at w memo zs memo₁ r) where
     -- it fails
-    pub try_fails : (b : ℕ) (s : State) (e : Descent) → r ≡ Err b → s ≡ tried_once at.visit.state → e ≡ record { state = s; ending = NextStart }
-        → TryDone (problem file) w w at e
+    pub try_fails : (step : Step) (e : Descent) → r ≡ Err step → e ≡ record { state = step.state; ending = NextStart } → TryDone (problem file) w w at e
     unfolding TryDue StartTaken TryDone
-    try_fails b s e t es is =
-        let judged : Judging file us rows ys at w memo zs memo₁ (Err b) = subst (StartTaken file us rows ys at w memo zs memo₁) t j in
-        let h : Blames (problem file) (placed_after at.visit.node) (entry at.visit.node.starts) at.visit.state.limit.0 b = judged.said in
-        let g : e.state ≡ tried_once at.visit.state = ap (λ (x : Descent). x.state) is ∙ es in
+    try_fails step e t is =
+        let d' : Refuted file us rows ys at w memo zs memo₁ step = subst (StartTaken file us rows ys at w memo zs memo₁) t j in
+        let b : ℕ = d'.b in
+        let h : Blames (problem file) (placed_after at.visit.node) (entry at.visit.node.starts) at.visit.state.limit.0 b = d'.judging.said in
+        let g : e.state ≡ tried_once at.visit.state = ap (λ (x : Descent). x.state) is ∙ ap (λ (x : Step). x.state) d'.step_is in
         let n : e.ending ≡ NextStart = ap (λ (x : Descent). x.ending) is in
         record {
           lowered = record { carried = rw g (carried_same (problem file) w at.visit.state.used); earliest = λ z. earliest_next e.ending z n };

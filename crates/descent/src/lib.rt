@@ -147,7 +147,7 @@ fn lower_start(
     }
     let mut next = *values;
     match probe::judge_start(file, tables, rows, at, &table[..], &mut next, memo) {
-        Err(_) => ended(state::tried(st), Ending::NextStart),
+        Err(step) => ended(step.state, Ending::NextStart),
         Ok(below) => {
             let out = bound::placed_rows(file, rows, node.starts, node.unit);
             lower_held(file, tables, &out, &next, below, table, memo)

@@ -45,7 +45,7 @@ module _ (bs : List ℕ) (k : ℕ) (clear : some_to k (is_end bs) ≡ false) whe
 -- ---- the first n words, and the rest, cut at m words
 
 -- nothing is left behind the last word
-none_left : (ws : List ℕ) (n : ℕ) → length ws ≤ n → take (length ws - length ws) (drop (length ws) ws) ≡ drop n ws
+pub none_left : (ws : List ℕ) (n : ℕ) → length ws ≤ n → take (length ws - length ws) (drop (length ws) ws) ≡ drop n ws
 none_left ws n h =
     ext_get_or 0 (take (length ws - length ws) (drop (length ws) ws)) (drop n ws)
     (omega (arith, length-take-le (length ws - length ws) (drop (length ws) ws) (omega arith), length-drop n ws))

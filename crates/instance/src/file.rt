@@ -164,8 +164,8 @@ impl<'a> File<'a> {
         sum
     }
 
-    // The table of maintenance costs.
-    pub fn maint_table(&self) -> &[u32]
+    // The table of maintenance costs. It is a part of the words, and lives as long as they do.
+    pub fn maint_table(&self) -> &'a [u32]
         ensures { result.now ≡ maints_of self.now.layout self.now.words.now }
     {
         let from = self.layout.maints;
@@ -174,7 +174,7 @@ impl<'a> File<'a> {
     }
 
     // The table of running costs.
-    pub fn running_table(&self) -> &[u32]
+    pub fn running_table(&self) -> &'a [u32]
         ensures { result.now ≡ runnings_of self.now.layout self.now.words.now }
     {
         let from = self.layout.runnings;

@@ -58,6 +58,10 @@ MOST_CHANGE = 8796093022208
 abbrev pub PATIENCE : ℕ
 PATIENCE = 6
 
+-- the most rounds of a file
+abbrev pub MOST_ROUNDS : ℕ
+MOST_ROUNDS = 256
+
 -- what the overhaul of a unit costs at most from its first permitted start, its prices included, with OFF in all other weeks
 abbrev pub MOST_FIRST_COST : ℕ
 MOST_FIRST_COST = 8589934592

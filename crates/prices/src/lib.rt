@@ -116,6 +116,7 @@ fn ascend(
     ensures answer { Priced (problem file.now) result }
     ensures right { Right (problem file.now) memo.new × Others memo.old memo.new }
 {
+    let most = file.layout.units * ROUNDS;
     let mut best = *first;
     let mut kept = *wants;
     let mut tables = *first;
@@ -127,7 +128,7 @@ fn ascend(
         idle: 0,
     };
     // Each time round, `s` has the bound at the prices of `best`, the highest so far, and that at the prices of `tables`, at which `wants` is wanted.
-    for _ in 0..file.layout.units * ROUNDS {
+    for _ in 0..most {
         let Some(root) = run_round(file, s, &mut tables, &mut push, wants, work, memo) else {
             break;
         };

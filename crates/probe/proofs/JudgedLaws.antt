@@ -15,10 +15,11 @@ use Rattle.instance.specs.declared.Euro.{Euro}
 use Rattle.blame.specs.Placed.{first_units, Standing}
 use Rattle.tables.specs.Tables.{price_in}
 use Rattle.relaxation.specs.Relaxed.{MemoTrue}
-use Rattle.std.proofs.Common.{Ok, Err}
+use Rattle.std.proofs.Common.{Result, Ok, Err}
 use Rattle.bound.specs.Tests.{Judged}
+use Rattle.state.specs.declared.State.{State}
 use Rattle.state.specs.declared.Step.{Step}
-use Rattle.state.specs.State.{stopped_at}
+use Rattle.state.specs.State.{tried_once, stopped_at, dead_at}
 use Rattle.walk.specs.Walk.{TestStartDue, Deeper, LeafDue, Leaf}
 use Rattle.walk.proofs.JudgedLaws.{test_few}
 use Rattle.probe.specs.declared.Visit.{Visit}
@@ -53,19 +54,37 @@ module _ (file : File) (us rows ys : List ℕ) (at : Visit) (w memo : List ℕ) 
   start_few = test_few file us rows ys at.visit w memo start_tests
 
   -- it was judged within the budget, and holds
-  pub judged_holds : (zs memo₁ : List ℕ) (c : Euro) (next : Visit) → at.visit.state.tries < at.visit.state.budget
-      → Judged (problem file) us at.visit.node at.visit.state.limit.0 zs (Ok c) → MemoTrue (problem file) (price_in us) memo₁
+  pub judged_holds : (zs memo₁ : List ℕ) (v : Result Euro ℕ) (c : Euro) (next : Visit) → v ≡ Ok c → at.visit.state.tries < at.visit.state.budget
+      → Judged (problem file) us at.visit.node at.visit.state.limit.0 zs v → MemoTrue (problem file) (price_in us) memo₁
       → Deeper at.visit c next.visit → StartTaken file us rows ys at w memo zs memo₁ (Ok next)
   unfolding StartDue StartTaken
-  judged_holds zs memo₁ c next left said recalls goes =
-      record { bound = c; judging = record { due = d; left = left; said = said; recalls = recalls }; goes = goes }
+  judged_holds zs memo₁ v c next e left said recalls goes = record {
+    bound = c;
+    judging = record {
+      due = d;
+      left = left;
+      said = subst (Judged (problem file) us at.visit.node at.visit.state.limit.0 zs) e said;
+      recalls = recalls;
+    };
+    goes = goes;
+  }
 
   -- or does not
-  pub judged_dead : (zs memo₁ : List ℕ) (b : ℕ) → at.visit.state.tries < at.visit.state.budget
-      → Judged (problem file) us at.visit.node at.visit.state.limit.0 zs (Err b) → MemoTrue (problem file) (price_in us) memo₁
-      → StartTaken file us rows ys at w memo zs memo₁ (Err b)
+  pub judged_dead : (zs memo₁ : List ℕ) (v : Result Euro ℕ) (b : ℕ) (s : State) (step : Step) → v ≡ Err b
+      → at.visit.state.tries < at.visit.state.budget → Judged (problem file) us at.visit.node at.visit.state.limit.0 zs v
+      → MemoTrue (problem file) (price_in us) memo₁ → s ≡ tried_once at.visit.state → step ≡ dead_at s b
+      → StartTaken file us rows ys at w memo zs memo₁ (Err step)
   unfolding StartDue StartTaken
-  judged_dead zs memo₁ b left said recalls = record { due = d; left = left; said = said; recalls = recalls }
+  judged_dead zs memo₁ v b s step e left said recalls es is = record {
+    b = b;
+    judging = record {
+      due = d;
+      left = left;
+      said = subst (Judged (problem file) us at.visit.node at.visit.state.limit.0 zs) e said;
+      recalls = recalls;
+    };
+    step_is = is ∙ ap (λ (x : State). dead_at x b) es;
+  }
 
 -- ---- every unit has its start
 

@@ -25,10 +25,10 @@ use Rattle.bound.specs.Tests.{Stands}
 use Rattle.bound.proofs.RowLaws.{rows_joined}
 use Rattle.state.specs.declared.State.{State}
 use Rattle.state.specs.declared.Step.{Step}
-use Rattle.state.specs.State.{tried_once, stopped_at, dead_at}
+use Rattle.state.specs.State.{tried_once, stopped_at}
 use Rattle.walk.proofs.StateLaws.{carried_same}
 use Rattle.probe.specs.declared.Visit.{Visit}
-use Rattle.probe.specs.Probe.{unplaced, Goes, Probed, Opened, PlaceDue, StartDue, Judging, Taken, StartTaken, PlaceDone, StartDone}
+use Rattle.probe.specs.Probe.{unplaced, Goes, Probed, Opened, PlaceDue, StartDue, Taken, Refuted, StartTaken, PlaceDone, StartDone}
 use Rattle.probe.proofs.PlanLaws.{improves_same, goes_next, unplaced_falls}
 
 -- a try is counted within the budget
@@ -56,26 +56,25 @@ module _ (file : File) (us rows ys : List ℕ) (at : Visit) (w memo : List ℕ) 
   })
 
 -- it fails
-pub taken_fails : (file : File) (us rows ys : List ℕ) (at : Visit) (w memo zs memo₁ : List ℕ) (r : Result Visit ℕ)
-    → StartTaken file us rows ys at w memo zs memo₁ r → (b : ℕ) (s : State) (step : Step) → r ≡ Err b → s ≡ tried_once at.visit.state → step ≡ dead_at s b
-    → StartDone (problem file) w w at step
+pub taken_fails : (file : File) (us rows ys : List ℕ) (at : Visit) (w memo zs memo₁ : List ℕ) (r : Result Visit Step)
+    → StartTaken file us rows ys at w memo zs memo₁ r → (step : Step) → r ≡ Err step → StartDone (problem file) w w at step
 unfolding StartTaken StartDone
-taken_fails file us rows ys at w memo zs memo₁ r j b s step t es is =
-    let d : Judging file us rows ys at w memo zs memo₁ (Err b) = subst (StartTaken file us rows ys at w memo zs memo₁) t j in
-    subst (StartDone (problem file) w w at) (sym (is ∙ ap (λ (x : State). dead_at x b) es)) (record {
+taken_fails file us rows ys at w memo zs memo₁ r j step t =
+    let d : Refuted file us rows ys at w memo zs memo₁ step = subst (StartTaken file us rows ys at w memo zs memo₁) t j in
+    subst (StartDone (problem file) w w at) (sym d.step_is) (record {
       improves = improves_same (problem file) (placed_after at.visit.node) (entry at.visit.node.starts) at.visit.state.limit.0 (entry at.visit.state.best);
-      says = d.said;
-      goes = goes_tried (problem file) w at.visit.state d.left;
+      says = d.judging.said;
+      goes = goes_tried (problem file) w at.visit.state d.judging.left;
     })
 
-pub taken_dead_recalls : (file : File) (us rows ys : List ℕ) (at : Visit) (w memo zs memo₁ : List ℕ) (r : Result Visit ℕ) (b : ℕ)
-    → StartTaken file us rows ys at w memo zs memo₁ r → r ≡ Err b → MemoTrue (problem file) (price_in us) memo₁
+pub taken_dead_recalls : (file : File) (us rows ys : List ℕ) (at : Visit) (w memo zs memo₁ : List ℕ) (r : Result Visit Step) (step : Step)
+    → StartTaken file us rows ys at w memo zs memo₁ r → r ≡ Err step → MemoTrue (problem file) (price_in us) memo₁
 unfolding StartTaken
-taken_dead_recalls file us rows ys at w memo zs memo₁ r b j t =
-    let d : Judging file us rows ys at w memo zs memo₁ (Err b) = subst (StartTaken file us rows ys at w memo zs memo₁) t j in d.recalls
+taken_dead_recalls file us rows ys at w memo zs memo₁ r step j t =
+    let d : Refuted file us rows ys at w memo zs memo₁ step = subst (StartTaken file us rows ys at w memo zs memo₁) t j in d.judging.recalls
 
 -- it holds
-module _ (file : File) (us rows ys : List ℕ) (at : Visit) (w memo zs memo₁ : List ℕ) (r : Result Visit ℕ)
+module _ (file : File) (us rows ys : List ℕ) (at : Visit) (w memo zs memo₁ : List ℕ) (r : Result Visit Step)
     (j : StartTaken file us rows ys at w memo zs memo₁ r) (next : Visit) (is : r ≡ Ok next) where
   pub taken : Taken file us rows ys at w memo zs memo₁ next
   unfolding StartTaken

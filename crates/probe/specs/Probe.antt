@@ -25,6 +25,7 @@ use Rattle.state.specs.declared.State.{State}
 use Rattle.state.specs.declared.Step.{Step}
 use Rattle.state.specs.declared.Walked.{Walked}
 use Rattle.state.specs.declared.Walked.TheVariants.{Dead, Spent}
+use Rattle.state.specs.State.{tried_once, dead_at}
 use Rattle.walk.specs.Walk.{TableTrue, Carried, Walking, Deeper, AllSettled, AllPlaced, Unspent}
 use Rattle.probe.specs.declared.Visit.{Visit}
 
@@ -150,10 +151,16 @@ pub record Taken (file : File) (us rows ys : List ℕ) (at : Visit) (w memo zs m
   pub judging : Judging file us rows ys at w memo zs memo₁ (Ok bound)
   pub goes : Deeper at.visit bound next.visit
 
+-- it fails, by the starts of the units of b; the try is counted here too
+pub record Refuted (file : File) (us rows ys : List ℕ) (at : Visit) (w memo zs memo₁ : List ℕ) (step : Step) : Type 0 where
+  pub b : ℕ
+  pub judging : Judging file us rows ys at w memo zs memo₁ (Err b)
+  pub step_is : step ≡ dead_at (tried_once at.visit.state) b
+
 -- it holds, or some units' starts are a dead end
-unfoldable pub StartTaken : (file : File) → (us rows ys : List ℕ) → Visit → (w memo zs memo₁ : List ℕ) → Result Visit ℕ → Type 0
+unfoldable pub StartTaken : (file : File) → (us rows ys : List ℕ) → Visit → (w memo zs memo₁ : List ℕ) → Result Visit Step → Type 0
 StartTaken file us rows ys at w memo zs memo₁ (Ok next) = Taken file us rows ys at w memo zs memo₁ next
-StartTaken file us rows ys at w memo zs memo₁ (Err b) = Judging file us rows ys at w memo zs memo₁ (Err b)
+StartTaken file us rows ys at w memo zs memo₁ (Err step) = Refuted file us rows ys at w memo zs memo₁ step
 
 -- a node with start v for a unit
 abbrev pub start_at : Node → (unit v : ℕ) → Node

@@ -76,10 +76,13 @@ from_next w x i t r b n is = record { none = λ s h l. ⊎_elim (here s) (above 
     above s l h = b.none s (omega arith) l
 
 -- a week of maintenance is the last
-pub end_found : (w : ℕ) (x : States) (i t r : ℕ) → NoneFrom w x i t → r ≡ 2 → r ≡ x (t - 1) i → t ≤ w → 0 < t → EndOut w x i (t - 1 + 1)
-end_found w x i t r b e is l some =
-    let behind : t ≡ t - 1 + 1 = omega (arith, some) in
-    subst (EndOut w x i) behind record { most = l; none = b.none; out = λ h. maint_is x (t - 1) i r e is }
+pub end_found : (w : ℕ) (x : States) (i t r : ℕ) → NoneFrom w x i t → r ≡ 2 → r ≡ x (t - 1) i → t ≤ w → EndOut w x i t
+end_found w x i t r b e is l = record { most = l; none = b.none; out = λ h. maint_is x (t - 1) i r e is }
+
+-- the same of the week behind it, by its number
+pub end_behind : (w : ℕ) (x : States) (i t r : ℕ) → NoneFrom w x i t → r ≡ 2 → r ≡ x (t - 1) i → t ≤ w → 0 < t → EndOut w x i (t - 1 + 1)
+end_behind w x i t r b e is l some =
+    let behind : t ≡ t - 1 + 1 = omega (arith, some) in subst (EndOut w x i) behind (end_found w x i t r b e is l)
 
 -- no week is one
 pub end_none : (w : ℕ) (x : States) (i t : ℕ) → NoneFrom w x i t → t ≤ 0 → EndOut w x i 0

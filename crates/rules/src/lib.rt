@@ -9,7 +9,7 @@ ghost use Rattle.model.specs.Rules as formulas;
 ghost use Rattle.instance.specs.File.{problem};
 ghost use Rattle.rules.specs.Gridded.{states};
 
-pub use grid::Grid;
+pub use grid::{Grid, state};
 
 mod cells;
 mod grid;

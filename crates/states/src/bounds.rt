@@ -1,4 +1,4 @@
-// Lower bounds of what every choice from a node costs, each by a rate for the need and a price for each place OUT; and the tables that they read.
+// Lower bounds of what every choice from a node costs, each by a rate for the need and a price for each place OUT.
 ghost use Rattle.std.specs.Prelude.{◌≡◌, ℕ, ◌+◌, ◌-◌, ◌*◌, ◌<◌, ◌≤◌};
 ghost use Rattle.sums.specs.NumSet.{has};
 ghost use Rattle.states.specs.Choices.{ChoiceFloor};

@@ -27,9 +27,9 @@ use Rattle.state.specs.declared.State.{State}
 use Rattle.state.specs.declared.Step.{Step}
 use Rattle.state.specs.declared.Walked.{Walked}
 use Rattle.state.specs.declared.Walked.TheVariants.{Dead, Spent}
-use Rattle.state.specs.State.{tried_once, stopped_at, dead_at, DeadEndNoted}
+use Rattle.state.specs.State.{stopped_at, dead_at, DeadEndNoted}
 use Rattle.walk.specs.declared.Visit.{Visit}
-use Rattle.walk.specs.Walk.{IsStart, Open, Walking, PlaceDue, TryNeeds, TryDue, Judging, Taken, TryTaken, PlaceDone, TryDone, LeavesUnit, GoesOn, TurnOf, Done, try_room, place_room, LeafDue, Leaf}
+use Rattle.walk.specs.Walk.{IsStart, Open, Walking, PlaceDue, TryNeeds, TryDue, Taken, Refuted, TryTaken, PlaceDone, TryDone, LeavesUnit, GoesOn, TurnOf, Done, try_room, place_room, LeafDue, Leaf}
 use Rattle.walk.proofs.StateLaws.{held_later}
 use Rattle.walk.proofs.PlaceLaws.{places_to_try, places_to_place}
 use Rattle.walk.proofs.NotedLaws.{later_noted}
@@ -268,23 +268,22 @@ module _ (file : File) (us rows ys : List ℕ) (at : Visit) (w memo : List ℕ) 
       subst (TryDone (problem file) w w at) (sym is) (done_stopped (problem file) w us rows ys at.node at.state d.untried k e h)
 
 -- it fails
-pub taken_fails : (file : File) (us rows ys : List ℕ) (at : Visit) (w memo zs memo₁ : List ℕ) (r : Result Visit ℕ)
-    → TryTaken file us rows ys at w memo zs memo₁ r → (b : ℕ) (s : State) (step : Step) → r ≡ Err b → s ≡ tried_once at.state → step ≡ dead_at s b
-    → TryDone (problem file) w w at step
+pub taken_fails : (file : File) (us rows ys : List ℕ) (at : Visit) (w memo zs memo₁ : List ℕ) (r : Result Visit Step)
+    → TryTaken file us rows ys at w memo zs memo₁ r → (step : Step) → r ≡ Err step → TryDone (problem file) w w at step
 unfolding TryTaken TryDone
-taken_fails file us rows ys at w memo zs memo₁ r j b s step t es is =
-    let d : Judging file us rows ys at w memo zs memo₁ (Err b) = subst (TryTaken file us rows ys at w memo zs memo₁) t j in
-    subst (TryDone (problem file) w w at) (sym (is ∙ ap (λ (x : State). dead_at x b) es))
-    (done_fails (problem file) w us rows ys at.node at.state d.due.untried b d.said)
+taken_fails file us rows ys at w memo zs memo₁ r j step t =
+    let d : Refuted file us rows ys at w memo zs memo₁ step = subst (TryTaken file us rows ys at w memo zs memo₁) t j in
+    subst (TryDone (problem file) w w at) (sym d.step_is)
+    (done_fails (problem file) w us rows ys at.node at.state d.judging.due.untried d.b d.judging.said)
 
-pub taken_dead_recalls : (file : File) (us rows ys : List ℕ) (at : Visit) (w memo zs memo₁ : List ℕ) (r : Result Visit ℕ) (b : ℕ)
-    → TryTaken file us rows ys at w memo zs memo₁ r → r ≡ Err b → MemoTrue (problem file) (price_in us) memo₁
+pub taken_dead_recalls : (file : File) (us rows ys : List ℕ) (at : Visit) (w memo zs memo₁ : List ℕ) (r : Result Visit Step) (step : Step)
+    → TryTaken file us rows ys at w memo zs memo₁ r → r ≡ Err step → MemoTrue (problem file) (price_in us) memo₁
 unfolding TryTaken
-taken_dead_recalls file us rows ys at w memo zs memo₁ r b j t =
-    let d : Judging file us rows ys at w memo zs memo₁ (Err b) = subst (TryTaken file us rows ys at w memo zs memo₁) t j in d.recalls
+taken_dead_recalls file us rows ys at w memo zs memo₁ r step j t =
+    let d : Refuted file us rows ys at w memo zs memo₁ step = subst (TryTaken file us rows ys at w memo zs memo₁) t j in d.judging.recalls
 
 -- it holds
-module _ (file : File) (us rows ys : List ℕ) (at : Visit) (w memo zs memo₁ : List ℕ) (r : Result Visit ℕ)
+module _ (file : File) (us rows ys : List ℕ) (at : Visit) (w memo zs memo₁ : List ℕ) (r : Result Visit Step)
     (j : TryTaken file us rows ys at w memo zs memo₁ r) (next : Visit) (is : r ≡ Ok next) where
   taken : Taken file us rows ys at w memo zs memo₁ next
   unfolding TryTaken

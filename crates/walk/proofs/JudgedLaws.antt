@@ -33,12 +33,12 @@ use Rattle.relaxation.proofs.ValueLaws.{recalls_others}
 use Rattle.dual.specs.declared.Node.{Node}
 use Rattle.dual.specs.Blame.{placed_after, Blamed}
 use Rattle.bound.specs.Rows.{RowsOfAll}
-use Rattle.std.proofs.Common.{Err}
+use Rattle.std.proofs.Common.{Result, Ok, Err}
 use Rattle.bound.specs.Tests.{Blames, Judged, TestDue}
 use Rattle.bound.proofs.RunLaws.{rows_all}
 use Rattle.state.specs.declared.State.{State}
 use Rattle.state.specs.declared.Step.{Step}
-use Rattle.state.specs.State.{dead_at, improved_by}
+use Rattle.state.specs.State.{tried_once, dead_at, improved_by}
 use Rattle.walk.specs.declared.Visit.{Visit}
 use Rattle.walk.specs.Walk.{AllPlaced, TestStartDue, TryDue, Deeper, TryTaken, LeafDue, BetterDue, Better, Leaf}
 
@@ -106,17 +106,26 @@ module _ (file : File) (us rows ys : List ℕ) (at : Visit) (w memo : List ℕ) 
   try_few = test_few file us rows ys at w memo try_tests
 
   -- it was judged within the budget, and holds
-  pub judged_holds : (zs memo₁ : List ℕ) (c : Euro) (next : Visit) → Judged (problem file) us at.node at.state.limit.0 zs (Ok c)
-      → MemoTrue (problem file) (price_in us) memo₁ → Deeper at c next → TryTaken file us rows ys at w memo zs memo₁ (Ok next)
+  pub judged_holds : (zs memo₁ : List ℕ) (v : Result Euro ℕ) (c : Euro) (next : Visit) → v ≡ Ok c
+      → Judged (problem file) us at.node at.state.limit.0 zs v → MemoTrue (problem file) (price_in us) memo₁ → Deeper at c next
+      → TryTaken file us rows ys at w memo zs memo₁ (Ok next)
   unfolding TryDue TryTaken
-  judged_holds zs memo₁ c next said recalls goes =
-      record { bound = c; judging = record { due = d; said = said; recalls = recalls }; goes = goes }
+  judged_holds zs memo₁ v c next e said recalls goes = record {
+    bound = c;
+    judging = record { due = d; said = subst (Judged (problem file) us at.node at.state.limit.0 zs) e said; recalls = recalls };
+    goes = goes;
+  }
 
   -- or does not
-  pub judged_dead : (zs memo₁ : List ℕ) (b : ℕ) → Judged (problem file) us at.node at.state.limit.0 zs (Err b)
-      → MemoTrue (problem file) (price_in us) memo₁ → TryTaken file us rows ys at w memo zs memo₁ (Err b)
+  pub judged_dead : (zs memo₁ : List ℕ) (v : Result Euro ℕ) (b : ℕ) (s : State) (step : Step) → v ≡ Err b
+      → Judged (problem file) us at.node at.state.limit.0 zs v → MemoTrue (problem file) (price_in us) memo₁ → s ≡ tried_once at.state
+      → step ≡ dead_at s b → TryTaken file us rows ys at w memo zs memo₁ (Err step)
   unfolding TryDue TryTaken
-  judged_dead zs memo₁ b said recalls = record { due = d; said = said; recalls = recalls }
+  judged_dead zs memo₁ v b s step e said recalls es is = record {
+    b = b;
+    judging = record { due = d; said = subst (Judged (problem file) us at.node at.state.limit.0 zs) e said; recalls = recalls };
+    step_is = is ∙ ap (λ (x : State). dead_at x b) es;
+  }
 
 -- ---- every unit has its start
 

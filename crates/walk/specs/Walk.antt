@@ -173,10 +173,16 @@ pub record Taken (file : File) (us rows ys : List ℕ) (at : Visit) (w memo zs m
   pub judging : Judging file us rows ys at w memo zs memo₁ (Ok bound)
   pub goes : Deeper at bound next
 
+-- or to fail, by the starts of the units of b; the try is counted here too
+pub record Refuted (file : File) (us rows ys : List ℕ) (at : Visit) (w memo zs memo₁ : List ℕ) (step : Step) : Type 0 where
+  pub b : ℕ
+  pub judging : Judging file us rows ys at w memo zs memo₁ (Err b)
+  pub step_is : step ≡ dead_at (tried_once at.state) b
+
 -- it was judged: it holds, or some units' starts are a dead end
-unfoldable pub TryTaken : (file : File) → (us rows ys : List ℕ) → Visit → (w memo zs memo₁ : List ℕ) → Result Visit ℕ → Type 0
+unfoldable pub TryTaken : (file : File) → (us rows ys : List ℕ) → Visit → (w memo zs memo₁ : List ℕ) → Result Visit Step → Type 0
 TryTaken file us rows ys at w memo zs memo₁ (Ok next) = Taken file us rows ys at w memo zs memo₁ next
-TryTaken file us rows ys at w memo zs memo₁ (Err b) = Judging file us rows ys at w memo zs memo₁ (Err b)
+TryTaken file us rows ys at w memo zs memo₁ (Err step) = Refuted file us rows ys at w memo zs memo₁ step
 
 -- the place of the first k starts is dead, by the starts of the units of b
 pub record DeadEnd (p : Problem) (xs : List ℕ) (k : ℕ) (st : State) (b : ℕ) : Type 0 where

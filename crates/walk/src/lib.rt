@@ -57,7 +57,7 @@ pub fn deeper(at: Visit, bound: Euro) -> Visit
     }
 }
 
-// Judges the start of a unit, within the budget: where the walk goes on, or the units whose starts are a dead end.
+// Judges the start of a unit, within the budget: where the walk goes on, or the dead end of the units to blame. The try is counted either way.
 fn judge_start(
     file: &File,
     tables: &[u32; TABLES],
@@ -66,13 +66,15 @@ fn judge_start(
     table: &[u32],
     values: &mut [u32],
     memo: &mut [u32],
-) -> Result<Visit, u32>
+) -> Result<Visit, Step>
     requires { TryDue file.now tables.now rows.now values.old at table.now memo.old × (at.state.tries < MOST_TRIES) }
     ensures { TryTaken file.now tables.now rows.now values.old at table.now memo.old
         values.new memo.new result }
 {
-    let bound = test_start(file, tables, rows, at, table, values, memo)?;
-    Ok(deeper(at, bound))
+    match test_start(file, tables, rows, at, table, values, memo) {
+        Ok(bound) => Ok(deeper(at, bound)),
+        Err(b) => Err(state::dead_end(state::tried(at.state), b)),
+    }
 }
 
 // ---- all units placed
@@ -143,7 +145,7 @@ fn try_start(
     }
     let mut next = *values;
     match judge_start(file, tables, rows, at, &table[..], &mut next, memo) {
-        Err(b) => state::dead_end(state::tried(st), b),
+        Err(step) => step,
         Ok(below) => {
             let out = bound::placed_rows(file, rows, node.starts, node.unit);
             place(file, tables, &out, &next, below, table, memo)

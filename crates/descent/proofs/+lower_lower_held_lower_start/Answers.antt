@@ -84,7 +84,7 @@ lower_start-lower_held-requires t c =
 pub lower_start-returns-in-Err : goal.lower_start-returns-in-Err
 lower_start-returns-in-Err t c =
     record {
-      answer = try_fails _ _ _ _ _ _ _ c.requires _ _ _ c.judge_start.ensures _ _ _ c.in-Err.is c.tried.ensures c.ended-in-Err.ensures;
+      answer = try_fails _ _ _ _ _ _ _ c.requires _ _ _ c.judge_start.ensures _ _ c.in-Err.is c.ended-in-Err.ensures;
       recalls = search taken_dead_recalls;
     }
 

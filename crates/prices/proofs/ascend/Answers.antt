@@ -7,6 +7,7 @@ use Rattle.prices.proofs.ascend.Goals as goal
 
 pub loop-init : goal.loop-init
 loop-init c = record {
+  rounds = search rules;
   progress = search rules;
   tables = search rules;
   push = at_most_start PLACES LEVEL MOST_PUSH (search rules);
@@ -30,6 +31,7 @@ returns-then-s-lt-LEAST_REACH c = record { answer = search priced_chosen; right 
 
 pub loop-preserved : goal.loop-preserved
 loop-preserved c = record {
+  rounds = search rules;
   progress = search rules;
   tables = search priced_either;
   push = search rules;

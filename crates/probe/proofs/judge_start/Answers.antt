@@ -7,11 +7,11 @@ use Rattle.probe.proofs.judge_start.Goals as goal
 pub test_start-requires : goal.test_start-requires
 test_start-requires c = search start_tests
 
-pub returns-in_err-bound : goal.returns-in_err-bound
-returns-in_err-bound c = search (rules, judged_dead, c.in_err-bound.ensures)
-
 pub deeper-requires : goal.deeper-requires
 deeper-requires c = (search start_few, search rules)
 
-pub returns : goal.returns
-returns c = search (judged_holds, c.in_ok-bound.ensures)
+pub returns-in-Ok : goal.returns-in-Ok
+returns-in-Ok c = search judged_holds
+
+pub returns-in-Err : goal.returns-in-Err
+returns-in-Err c = search judged_dead
